@@ -1,0 +1,4 @@
+pub mod Walks
+pub mod RowWalks
+pub mod BracketWalks
+pub mod RowLaws

@@ -1,0 +1,158 @@
+//! `Sequence`, a list of items of one kind. A clause sees it as the list of its items.
+ghost use Rattle.std.specs.Prelude.{◌≡◌, ◌<◌, ◌↔◌, [], ◌∷◌, ◌++◌, List, length, take, slice_get, option_copied, IsSome, IsTrue, IfOk, OnOk, OnErr};
+
+use crate::NoMemory;
+use std::alloc::Global;
+use std::marker::Model;
+
+/// What a `Sequence` can hold and copy.
+pub trait Item: Drop {
+    /// Returns a value equal to this one.
+    fn copied(&self) -> Result<Self, NoMemory>
+        ensures { IfOk result (λ copy. copy ≡ self.now) };
+}
+
+impl Item for char {
+    fn copied(&self) -> Result<Self, NoMemory> {
+        Ok(*self)
+    }
+}
+
+impl Item for u8 {
+    fn copied(&self) -> Result<Self, NoMemory> {
+        Ok(*self)
+    }
+}
+
+/// A list of items.
+#[derive(Debug, Drop)]
+pub struct Sequence<T> {
+    items: Vec<T>,
+}
+
+impl<T> Model for Sequence<T> {
+    ghost Value = { List T };
+
+    ghost view = { λ s. s.items.items };
+}
+
+impl<T: Drop> Sequence<T> {
+    /// Returns a list without items.
+    pub fn new(alloc: Global) -> Self
+        ensures { result ≡ [] }
+    {
+        Sequence {
+            items: Vec::new(alloc),
+        }
+    }
+
+    /// Returns a list of the items of `items`, in its memory.
+    pub fn from_vec(items: Vec<T>) -> Self
+        ensures { result ≡ items.items }
+    {
+        Sequence { items }
+    }
+
+    /// Returns the items, in the memory of the list.
+    pub fn into_vec(self) -> Vec<T>
+        ensures { result.items ≡ self }
+    {
+        let Sequence { items } = self;
+        items
+    }
+
+    /// Returns the number of items.
+    pub fn len(&self) -> usize
+        ensures { result ≡ length self.now }
+    {
+        self.items.len()
+    }
+
+    /// Returns whether there is no item.
+    pub fn is_empty(&self) -> bool
+        ensures { IsTrue result ↔ (self.now ≡ []) }
+    {
+        self.items.is_empty()
+    }
+
+    /// Returns the item at the place `at`, counted from 0.
+    pub fn get(&self, at: usize) -> Option<&T>
+        ensures item { option_copied result ≡ slice_get self.now at }
+        ensures within { IsSome result ↔ (at < length self.now) }
+    {
+        self.items.get(at)
+    }
+
+    /// Returns the items as a slice.
+    pub fn as_slice(&self) -> &[T]
+        ensures { result.now ≡ self.now }
+    {
+        self.items.as_slice()
+    }
+
+    /// Puts an item behind the others. An item that finds no memory is dropped.
+    pub fn push(&mut self, item: T) -> Result<(), NoMemory>
+        ensures ok { OnOk result (self.new ≡ self.old ++ item ∷ []) }
+        ensures err { OnErr result (self.new ≡ self.old) }
+    {
+        self.items.push(item)?;
+        Ok(())
+    }
+
+    /// Returns the allocator of the list.
+    pub fn allocator(&self) -> Global {
+        *self.items.allocator()
+    }
+
+    /// Drops all items.
+    pub fn clear(&mut self)
+        ensures { self.new ≡ [] }
+    {
+        self.items.clear();
+    }
+}
+
+impl<T: Copy> Sequence<T> {
+    /// Returns a list of these items.
+    pub fn from_slice(alloc: Global, items: &[T]) -> Result<Self, NoMemory>
+        ensures { IfOk result (λ list. list ≡ items.now) }
+    {
+        let items = Vec::from_slice(alloc, items)?;
+        Ok(Sequence { items })
+    }
+
+    /// Puts these items behind the others, in their order.
+    pub fn extend_from_slice(&mut self, items: &[T]) -> Result<(), NoMemory>
+        ensures ok { OnOk result (self.new ≡ self.old ++ items.now) }
+        ensures err { OnErr result (self.new ≡ self.old) }
+    {
+        self.items.extend_from_slice(items)?;
+        Ok(())
+    }
+}
+
+impl<T: Item> Sequence<T> {
+    /// Returns a list of copies of these items.
+    pub fn copy(&self) -> Result<Self, NoMemory>
+        ensures { IfOk result (λ copy. copy ≡ self.now) }
+    {
+        let items = copied_items(self.allocator(), self.items.as_slice())?;
+        Ok(Sequence { items })
+    }
+}
+
+impl<T: Item> Item for Sequence<T> {
+    fn copied(&self) -> Result<Self, NoMemory> {
+        self.copy()
+    }
+}
+
+fn copied_items<T: Item>(alloc: Global, items: &[T]) -> Result<Vec<T>, NoMemory>
+    ensures { IfOk result (λ copies. copies.items ≡ items.now) }
+{
+    let mut copies = Vec::with_capacity(alloc, items.len())?;
+    for item in items {
+        copies.push(item.copied()?)?;
+    }
+    Ok(copies)
+}
