@@ -1,0 +1,4 @@
+pub mod EditLemmas
+pub mod GridLemmas
+pub mod JoinLemmas
+pub mod RowLemmas

@@ -1,0 +1,10 @@
+pub mod Attrs
+pub mod Cell
+pub mod CellText
+pub mod Drawing
+pub mod Grid
+pub mod GridFields
+pub mod Row
+pub mod Same
+pub mod Size
+pub mod TextCells

@@ -1,0 +1,9 @@
+use crate::Grid;
+
+/// What is to be shown: a grid, and the row and the column of the cursor.
+#[derive(Debug, Drop)]
+pub struct Drawing {
+    pub grid: Grid,
+    pub row: u32,
+    pub col: u32,
+}
