@@ -1,0 +1,9 @@
+pub mod Controls
+pub mod Fields
+pub mod Laws
+pub mod Meaning
+pub mod Obeying
+pub mod Parameters
+pub mod Rendition
+pub mod Resizing
+pub mod Term
