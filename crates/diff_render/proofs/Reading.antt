@@ -1,0 +1,225 @@
+-- What the pieces of a frame read as, whatever comes behind them, and that they hold no question.
+use Rattle.std.proofs.Common.{◌≡◌, ℕ, ◌+◌, ◌-◌, ◌*◌, ◌/◌, ◌%◌, ◌^◌, ◌<◌, ◌≤◌, Bool, true, false, not, List, [], ◌∷◌, ◌++◌, length, drop, slice_index, nat_eq, nat_lt, max, refl, sym, ap, ◌∙◌, arith, append_assoc, append-nil}
+use Rattle.std.specs.List.{list_all}
+use Rattle.std.specs.Fmt.{decimal}
+use Rattle.std.proofs.lemmas.Bool.{and_parts, and_from, and_right, false≢true}
+use Rattle.std.proofs.lemmas.Bool.Decides.{nat_tests}
+use Rattle.std.proofs.lemmas.List.Folds.{list_all-append}
+use Rattle.std.proofs.lemmas.Fmt.{decimal_by_steps}
+use Rattle.bstr.specs.Utf8.{Decoded, decoded, good, or_replacement, lossy_chars}
+use Rattle.bstr.proofs.lemmas.PieceLemmas.{lossy_chars-step, value-1}
+use Rattle.term_model.specs.Parameters.{is_digit, is_numeric, capped, numbers_from, numbers}
+use Rattle.term_model.specs.Controls.{Control, between, parameters, controls_from, function_of, is_parameter, is_intermediate, is_final, stepped, only}
+use Rattle.diff_render.specs.Canvas.{reads, Spells, starts, one_more, asked, IsQuiet}
+use Rattle.diff_render.specs.Spelling.{listed}
+
+-- ---- lists of tests
+
+pub weaker : (p q : ℕ → Bool) → ((c : ℕ) → p c ≡ true → q c ≡ true) → (cs : List ℕ) → list_all p cs ≡ true → list_all q cs ≡ true
+weaker p q step [] h = refl
+weaker p q step (c ∷ cs) h =
+    let parts = and_parts (p c) (list_all p cs) h in and_from (q c) (list_all q cs) (step c parts.0) (weaker p q step cs parts.1)
+
+pub all_append : (p : ℕ → Bool) (xs ys : List ℕ) → list_all p xs ≡ true → list_all p ys ≡ true → list_all p (xs ++ ys) ≡ true
+all_append p xs ys h k = list_all-append p xs ys ∙ and_from (list_all p xs) (list_all p ys) h k
+
+-- ---- bytes as characters
+
+abbrev pub is_low : ℕ → Bool
+is_low c = nat_lt c 128
+
+low-less : (c : ℕ) → is_low c ≡ true → c < 128
+low-less c h = grind (arith, nat_tests)
+
+pub lossy_chars-low : (b : ℕ) (rest : List ℕ) → b < 128 → lossy_chars (b ∷ rest) ≡ b ∷ lossy_chars rest
+lossy_chars-low b rest low =
+    let bytes = b ∷ rest in
+    let reads : decoded bytes ≡ good b 1 = value-1 (length bytes) b (slice_index bytes 1) (slice_index bytes 2) (slice_index bytes 3) (omega arith, low) in
+    lossy_chars-step bytes (omega arith) ∙ ap (λ (p : Decoded). or_replacement p.char ∷ lossy_chars (drop p.size bytes)) reads
+
+pub lossy_chars-all_low : (chars rest : List ℕ) → list_all is_low chars ≡ true → lossy_chars (chars ++ rest) ≡ chars ++ lossy_chars rest
+lossy_chars-all_low [] rest h = refl
+lossy_chars-all_low (c ∷ cs) rest h =
+    let parts = and_parts (is_low c) (list_all is_low cs) h in
+    lossy_chars-low c (cs ++ rest) (low-less c parts.0) ∙ ap (λ x. c ∷ x) (lossy_chars-all_low cs rest parts.1)
+
+-- ---- readings one after another
+
+pub spells_none : Spells [] []
+spells_none rest = refl
+
+pub spells_then : (a b : List ℕ) (cs ds : List Control) → Spells a cs → Spells b ds → Spells (a ++ b) (cs ++ ds)
+spells_then a b cs ds p q rest =
+    ap reads (append_assoc a b rest) ∙ p (b ++ rest) ∙ ap (λ x. cs ++ x) (q rest) ∙ sym (append_assoc cs ds (reads rest))
+
+-- characters below 128 read as they do
+pub spells_low : (chars : List ℕ) (controls : List Control) → list_all is_low chars ≡ true
+    → ((rest : List ℕ) → controls_from between (chars ++ rest) ≡ controls ++ controls_from between rest) → Spells chars controls
+spells_low chars controls low step rest = ap (controls_from between) (lossy_chars-all_low chars rest low) ∙ step (lossy_chars rest)
+
+-- ---- control sequences
+
+params_read : (acc ps xs : List ℕ) → list_all is_parameter ps ≡ true → controls_from (parameters acc) (ps ++ xs) ≡ controls_from (parameters (acc ++ ps)) xs
+params_read acc [] xs h = ap (λ a. controls_from (parameters a) xs) (sym (append-nil acc))
+params_read acc (p ∷ ps) xs h =
+    let parts = and_parts (is_parameter p) (list_all is_parameter ps) h in
+    rw parts.0 (params_read (acc ++ p ∷ []) ps xs parts.1 ∙ ap (λ a. controls_from (parameters a) xs) (append_assoc acc (p ∷ []) ps))
+
+-- CSI, parameters and a final character
+pub sequence_reads : (ps : List ℕ) (final : ℕ) → list_all is_parameter ps ≡ true
+    → is_parameter final ≡ false → is_intermediate final ≡ false → is_final final ≡ true
+    → (rest : List ℕ) → controls_from between (27 ∷ 91 ∷ (ps ++ final ∷ rest)) ≡ function_of ps final ++ controls_from between rest
+sequence_reads ps final h a b c rest = params_read [] ps (final ∷ rest) h ∙ rw (a, b, c) refl
+
+low_parameter : (c : ℕ) → is_parameter c ≡ true → is_low c ≡ true
+low_parameter c h = grind (arith, nat_tests)
+
+pub spells_sequence : (ps : List ℕ) (final : ℕ) → list_all is_parameter ps ≡ true
+    → is_parameter final ≡ false → is_intermediate final ≡ false → is_final final ≡ true → is_low final ≡ true
+    → Spells (27 ∷ 91 ∷ ps ++ final ∷ []) (function_of ps final)
+spells_sequence ps final h a b c low =
+    spells_low (27 ∷ 91 ∷ ps ++ final ∷ []) (function_of ps final)
+    (all_append is_low ps (final ∷ []) (weaker is_parameter is_low low_parameter ps h) (and_from (is_low final) true low refl))
+    (λ rest. ap (λ x. controls_from between (27 ∷ 91 ∷ x)) (append_assoc ps (final ∷ []) rest) ∙ sequence_reads ps final h a b c rest)
+
+-- ---- numbers
+
+numeric_digit : (c : ℕ) → is_digit c ≡ true → is_numeric c ≡ true
+numeric_digit c h = rw h refl
+
+pub parameter_numeric : (c : ℕ) → is_numeric c ≡ true → is_parameter c ≡ true
+parameter_numeric c h = grind (arith, nat_tests)
+
+digit_of : (n : ℕ) → n < 10 → is_digit (48 + n) ≡ true
+digit_of n h = grind (arith, nat_tests)
+
+digits_of_decimal : (n : ℕ) → n < 2 ^ 64 → list_all is_digit (decimal n) ≡ true
+digits_of_decimal n h = decimal_by_steps (λ n ds. list_all is_digit ds ≡ true) (λ n h. and_from (is_digit (48 + n)) true (digit_of n h) refl)
+    (λ n ds h k. all_append is_digit ds ((48 + n % 10) ∷ []) k (and_from (is_digit (48 + n % 10)) true (digit_of (n % 10) (omega arith)) refl)) n h
+
+pub decimal_numeric : (n : ℕ) → n < 2 ^ 64 → list_all is_numeric (decimal n) ≡ true
+decimal_numeric n h = weaker is_digit is_numeric numeric_digit (decimal n) (digits_of_decimal n h)
+
+-- one digit more
+numbers_digit : (value d : ℕ) (rest : List ℕ) → d < 10 → numbers_from value ((48 + d) ∷ rest) ≡ numbers_from (10 * value + d) rest
+numbers_digit value d rest h =
+    let other : nat_eq (48 + d) 59 ≡ false = grind (arith, nat_tests) in
+    let same : 48 + d - 48 ≡ d = omega arith in
+    rw (other, same) refl
+
+pub numbers_decimal : (n : ℕ) → n < 2 ^ 64 → (rest : List ℕ) → numbers_from 0 (decimal n ++ rest) ≡ numbers_from n rest
+numbers_decimal n h = decimal_by_steps (λ n ds. (rest : List ℕ) → numbers_from 0 (ds ++ rest) ≡ numbers_from n rest)
+    (λ n h rest. numbers_digit 0 n rest h ∙ ap (λ m. numbers_from m rest) (omega arith))
+    (λ n ds h k rest. ap (numbers_from 0) (append_assoc ds ((48 + n % 10) ∷ []) rest) ∙ k ((48 + n % 10) ∷ rest)
+    ∙ numbers_digit (n / 10) (n % 10) rest (omega arith) ∙ ap (λ m. numbers_from m rest) (omega arith)) n h
+
+-- numbers within what a parameter counts as
+abbrev pub AllSmall : List ℕ → Type 0
+AllSmall [] = Unit {0}
+AllSmall (n ∷ ns) = (n ≤ 9999) × AllSmall ns
+
+numbers_end : (n : ℕ) → n ≤ 9999 → numbers_from n [] ≡ n ∷ []
+numbers_end n h = ap (λ m. m ∷ []) (omega arith)
+
+pub numbers_listed : (value : ℕ) (ns : List ℕ) → value ≤ 9999 → AllSmall ns → numbers_from value (listed ns) ≡ value ∷ ns
+numbers_listed value [] h k = numbers_end value h
+numbers_listed value (n ∷ ns) h k =
+    ap (λ m. m ∷ numbers_from 0 (decimal n ++ listed ns)) (let e : capped value ≡ value = omega arith in e)
+    ∙ ap (λ x. value ∷ x) (numbers_decimal n (omega (arith, k.0)) (listed ns) ∙ numbers_listed n ns k.0 k.1)
+
+pub listed_numeric : (ns : List ℕ) → AllSmall ns → list_all is_numeric (listed ns) ≡ true
+listed_numeric [] h = refl
+listed_numeric (n ∷ ns) h = all_append is_numeric (decimal n) (listed ns) (decimal_numeric n (omega (arith, h.0))) (listed_numeric ns h.1)
+
+arrow_number : (n : ℕ) → 0 < n → n ≤ 9999 → max 1 n ≡ n
+arrow_number n h k = omega arith
+
+pub stepped_decimal : (control : ℕ → Control) (n : ℕ) → 0 < n → n ≤ 9999 → stepped control (only (numbers (decimal n))) ≡ control n ∷ []
+stepped_decimal control n h k =
+    let whole : numbers_from 0 (decimal n) ≡ n ∷ [] = ap (numbers_from 0) (sym (append-nil (decimal n))) ∙ numbers_decimal n (omega arith) [] ∙ numbers_end n k in
+    let is : numbers (decimal n) ≡ n ∷ [] = rw (decimal_numeric n (omega arith)) whole in
+    ap (λ x. stepped control (only x)) is ∙ ap (λ m. control m ∷ []) (arrow_number n h k)
+
+pub listed-append : (ms ns : List ℕ) → listed (ms ++ ns) ≡ listed ms ++ listed ns
+listed-append [] ns = refl
+listed-append (m ∷ ms) ns = ap (λ x. 59 ∷ decimal m ++ x) (listed-append ms ns) ∙ ap (λ x. 59 ∷ x) (sym (append_assoc (decimal m) (listed ms) (listed ns)))
+
+listed_more : (x ns ms : List ℕ) → (x ++ listed ns) ++ listed ms ≡ x ++ listed (ns ++ ms)
+listed_more x ns ms = append_assoc x (listed ns) (listed ms) ∙ ap (λ y. x ++ y) (sym (listed-append ns ms))
+
+-- nine lists of numbers that are appended one after another
+pub listed_nine : (x a b c d e f g h k : List ℕ) → ((((((((x ++ listed a) ++ listed b) ++ listed c) ++ listed d) ++ listed e) ++ listed f) ++ listed g) ++ listed h) ++ listed k
+    ≡ x ++ listed (((((((a ++ b) ++ c) ++ d) ++ e) ++ f) ++ g) ++ h ++ k)
+listed_nine x a b c d e f g h k =
+    rw (
+      listed_more x a b,
+      listed_more x (a ++ b) c,
+      listed_more x (a ++ b ++ c) d,
+      listed_more x (a ++ b ++ c ++ d) e,
+      listed_more x (a ++ b ++ c ++ d ++ e) f,
+      listed_more x (a ++ b ++ c ++ d ++ e ++ f) g,
+      listed_more x (a ++ b ++ c ++ d ++ e ++ f ++ g) h,
+      listed_more x (a ++ b ++ c ++ d ++ e ++ f ++ g ++ h) k,
+    ) refl
+
+-- ---- no question
+
+quiet_byte : (byte : ℕ) (rest : List ℕ) → nat_eq 27 byte ≡ false → asked (byte ∷ rest) ≡ asked rest
+quiet_byte byte rest h = rw h refl
+
+pub quiet_none : IsQuiet []
+quiet_none rest = refl
+
+pub quiet_then : (a b : List ℕ) → IsQuiet a → IsQuiet b → IsQuiet (a ++ b)
+quiet_then a b p q rest = ap asked (append_assoc a b rest) ∙ p (b ++ rest) ∙ q rest
+
+-- a byte that is not ESC
+abbrev pub is_other : ℕ → Bool
+is_other byte = not (nat_eq 27 byte)
+
+not_true : (b : Bool) → not b ≡ true → b ≡ false
+not_true true h = absurd (false≢true h)
+not_true false h = refl
+
+pub quiet_others : (bytes : List ℕ) → list_all is_other bytes ≡ true → IsQuiet bytes
+quiet_others [] h rest = refl
+quiet_others (b ∷ bs) h rest =
+    let parts = and_parts (is_other b) (list_all is_other bs) h in
+    quiet_byte b (bs ++ rest) (not_true (nat_eq 27 b) parts.0) ∙ quiet_others bs parts.1 rest
+
+other_parameter : (c : ℕ) → is_parameter c ≡ true → is_other c ≡ true
+other_parameter c h = let e : nat_eq 27 c ≡ false = grind (arith, nat_tests) in rw e refl
+
+not_n : (c : ℕ) → is_parameter c ≡ true → nat_eq 110 c ≡ false
+not_n c h = grind (arith, nat_tests)
+
+-- CSI with parameters and a final character other than `n` does not begin the question
+not_begun : (ps rest : List ℕ) (final : ℕ) → list_all is_parameter ps ≡ true → nat_eq 54 final ≡ false → nat_eq 110 final ≡ false
+    → starts (54 ∷ 110 ∷ []) (ps ++ final ∷ rest) ≡ false
+not_begun [] rest final h a b = rw a refl
+not_begun (p ∷ []) rest final h a b = rw b (and_right (nat_eq 54 p) false refl)
+not_begun (p ∷ q ∷ qs) rest final h a b =
+    let parts = and_parts (is_parameter p) (list_all is_parameter (q ∷ qs)) h in
+    let more = and_parts (is_parameter q) (list_all is_parameter qs) parts.1 in
+    let no : nat_eq 110 q ≡ false = not_n q more.0 in
+    rw no (and_right (nat_eq 54 p) false refl)
+
+pub quiet_sequence : (ps : List ℕ) (final : ℕ) → list_all is_parameter ps ≡ true → nat_eq 54 final ≡ false → nat_eq 110 final ≡ false → is_other final ≡ true
+    → IsQuiet (27 ∷ 91 ∷ ps ++ final ∷ [])
+quiet_sequence ps final h a b c rest =
+    let same : (ps ++ final ∷ []) ++ rest ≡ ps ++ (final ∷ rest) = append_assoc ps (final ∷ []) rest in
+    let others : list_all is_other (ps ++ final ∷ []) ≡ true =
+    all_append is_other ps (final ∷ []) (weaker is_parameter is_other other_parameter ps h) (and_from (is_other final) true c refl) in
+    let begun : starts (54 ∷ 110 ∷ []) ((ps ++ final ∷ []) ++ rest) ≡ false = ap (starts (54 ∷ 110 ∷ [])) same ∙ not_begun ps rest final h a b in
+    ap (λ x. one_more x (asked ((ps ++ final ∷ []) ++ rest))) begun ∙ quiet_others (ps ++ final ∷ []) others rest
+
+-- the sequence of a pen, appended piece by piece
+pub spelled_in_pieces : (old a b c d e f g h k : List ℕ) (s0 s1 s2 s3 s4 s5 s6 s7 s8 s9 s10 : List ℕ) → s0 ≡ old ++ 27 ∷ 91 ∷ 48 ∷ []
+    → s1 ≡ s0 ++ listed a → s2 ≡ s1 ++ listed b → s3 ≡ s2 ++ listed c → s4 ≡ s3 ++ listed d → s5 ≡ s4 ++ listed e → s6 ≡ s5 ++ listed f
+    → s7 ≡ s6 ++ listed g → s8 ≡ s7 ++ listed h → s9 ≡ s8 ++ listed k → s10 ≡ s9 ++ 109 ∷ []
+    → s10 ≡ old ++ (27 ∷ 91 ∷ 48 ∷ listed (((((((a ++ b) ++ c) ++ d) ++ e) ++ f) ++ g) ++ h ++ k) ++ 109 ∷ [])
+spelled_in_pieces old a b c d e f g h k s0 s1 s2 s3 s4 s5 s6 s7 s8 s9 s10 e0 e1 e2 e3 e4 e5 e6 e7 e8 e9 e10 =
+    let head : List ℕ = 27 ∷ 91 ∷ 48 ∷ [] in
+    let all = ((((((a ++ b) ++ c) ++ d) ++ e) ++ f) ++ g) ++ h ++ k in
+    let nine : s9 ≡ (old ++ head) ++ listed all = rw (e9, e8, e7, e6, e5, e4, e3, e2, e1, e0) (listed_nine (old ++ head) a b c d e f g h k) in
+    e10 ∙ ap (λ x. x ++ 109 ∷ []) nine ∙ append_assoc (old ++ head) (listed all) (109 ∷ []) ∙ append_assoc old head (listed all ++ 109 ∷ [])

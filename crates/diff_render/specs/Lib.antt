@@ -1,0 +1,12 @@
+pub mod Canvas
+pub mod Changes
+pub mod Drawable
+pub mod Fits
+pub mod Frames
+pub mod Opening
+pub mod Redrawing
+pub mod Redrawn
+pub mod ScreenFields
+pub mod Spelling
+pub mod Turning
+pub mod Writer
