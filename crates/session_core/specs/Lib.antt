@@ -1,0 +1,6 @@
+pub mod Draw
+pub mod Fields
+pub mod Keys
+pub mod Next
+pub mod State
+pub mod Typed
