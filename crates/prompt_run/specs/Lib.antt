@@ -1,0 +1,9 @@
+pub mod Lines
+pub mod Play
+pub mod Playing
+pub mod Replay
+pub mod Report
+pub mod Source
+pub mod Spelling
+pub mod Terminals
+pub mod Turn

@@ -1,0 +1,39 @@
+-- What a contract sees of a turn.
+use Rattle.std.specs.Prelude.{◌≡◌, ℕ, ◌+◌, ◌*◌, ◌≤◌, false, List, [], length, Option, Some, None, is_some}
+use Rattle.diff_render.specs.Frames.{Shows, TouchesChanges, IsOnScreen, changed_places, height_of}
+use Rattle.diff_render.specs.declared.shown.OnScreen.{OnScreen}
+use Rattle.session_core.specs.declared.outcomes.Outcome.{Outcome}
+use Rattle.session_core.specs.declared.outcomes.Outcome.TheVariants.{Accepted, EndOfFile, Interrupted}
+use Rattle.session_core.specs.Draw.{draw}
+use Rattle.session_core.specs.State.{State, HasFailed, failed}
+use Rattle.session_core.specs.Next.{next}
+use Rattle.ports.specs.declared.events.Event.{Event}
+use Rattle.prompt_run.specs.declared.turns.Turned.{Turned}
+use Rattle.prompt_run.specs.declared.turns.Turned.TheVariants as turned
+use Rattle.prompt_run.specs.declared.turns.TurnFault.{TurnFault}
+use Rattle.prompt_run.specs.declared.turns.TurnFault.TheVariants as faults
+
+-- what an outcome leaves a prompt at
+abbrev pub turned_of : Option Outcome → Turned
+turned_of None = turned.Going
+turned_of (Some (Accepted text)) = turned.Accepted
+turned_of (Some EndOfFile) = turned.EndOfFile
+turned_of (Some Interrupted) = turned.Interrupted
+
+-- what a turn that was not made leaves of the session: one that had ended stays, and any other has ended without an outcome
+abbrev pub Leaves : TurnFault → Event → State → State → Type 0
+Leaves faults.Ended event old new = new ≡ old
+Leaves faults.ScreenFault event old new = new ≡ failed (next old event)
+Leaves faults.NoMemory event old new = HasFailed new
+
+-- a frame that turns what is on the screen into the drawing of a state: it shows the drawing, prints only where places change, is
+-- short, and is empty where the drawing is on the screen already and the prompt goes on
+pub record ShowsState (shown : OnScreen) (s : State) (frame : List ℕ) : Type 0 where
+  pub shows : Shows s.size shown (draw s) (is_some s.outcome) frame
+  pub touches : TouchesChanges s.size shown (draw s) frame
+  pub short : length frame ≤ 100 + 128 * changed_places s.size shown (draw s) + 16 * height_of shown (draw s)
+  pub unchanged : IsOnScreen shown (draw s) → is_some s.outcome ≡ false → frame ≡ []
+
+-- the screen took one frame, which turns what was shown into the drawing of the state
+abbrev pub TakesState : {S : Type 0} → (S → List ℕ → S → Type 0) → S → S → OnScreen → State → Type 0
+TakesState took old new shown s = (frame : List ℕ) × took old frame new × ShowsState shown s frame

@@ -1,0 +1,104 @@
+// One turn: an event, the step that it makes, and the frame that shows the state after it.
+ghost use Rattle.std.specs.Prelude.{◌≡◌, ◌≤◌, ◌↔◌, IsTrue, Err, IfOk, IfErr, OnOk, is_some};
+ghost use Rattle.causes.specs.Faults.{Rose};
+ghost use Rattle.diff_render.specs.Frames.{WasDrawnAt, screen_after};
+ghost use Rattle.session_core.specs.Draw.{IsOneRow, draw};
+ghost use Rattle.session_core.specs.Next.{next};
+ghost use Rattle.session_core.specs.State.{has_ended};
+ghost use Rattle.prompt_run.specs.Turn.{turned_of, Leaves, TakesState};
+
+use diff_render::{Shown, frame};
+use ports::Screen;
+use session_core::{Event, Outcome, Session, StepFault};
+use std::alloc::Global;
+use thiserror::Error;
+
+/// What a turn left the prompt at.
+#[derive(Clone, Copy, Debug, PartialEq, Eq)]
+pub enum Turned {
+    /// The prompt waits for the next event.
+    Going,
+    /// The text was accepted.
+    Accepted,
+    /// The input ended.
+    EndOfFile,
+    /// The prompt was interrupted.
+    Interrupted,
+}
+
+/// Why a turn was not made. Behind each of them the session has ended; where it had not ended before, it has no outcome.
+#[derive(Clone, Copy, Debug, PartialEq, Eq, Error)]
+pub enum TurnFault {
+    /// The session had ended before.
+    #[error("the session has ended")]
+    Ended,
+    /// The screen refused the frame.
+    #[error("the screen refused a frame")]
+    ScreenFault,
+    /// There was no memory. No part of a frame went out.
+    #[error("out of memory")]
+    NoMemory,
+}
+
+/// Does the step of the event, makes the frame from what is shown to the drawing of the new state, and gives it to the
+/// screen in one call, an empty frame too.
+pub fn turn<S: Screen>(
+    alloc: Global,
+    session: &mut Session,
+    shown: &mut Shown,
+    event: Event,
+    screen: &mut S,
+) -> Result<Turned, TurnFault>
+    requires drawn { WasDrawnAt session.old.size shown.old }
+    requires one_row { IsOneRow (next session.old event) }
+    ensures next { OnOk result (session.new ≡ next session.old event) }
+    ensures answer { IfOk result (λ turned. turned ≡ turned_of session.new.outcome) }
+
+    // A terminal that showed what was shown and obeys the frame shows the new state.
+    ensures shows { OnOk result (TakesState S.took screen.old screen.new shown.old session.new) }
+    ensures shown { OnOk result (shown.new ≡ screen_after (is_some session.new.outcome) (draw session.new) session.new.size) }
+
+    ensures ended { (result ≡ Err TurnFault.Ended) ↔ IsTrue (has_ended session.old) }
+    ensures screen { result ≡ Err TurnFault.ScreenFault → Rose (S.faults screen.old) (S.faults screen.new) }
+    ensures leaves { IfErr result (λ fault. Leaves fault event session.old session.new) }
+    ensures refused { result ≡ Err TurnFault.ScreenFault
+        → shown.new ≡ screen_after (is_some (next session.old event).outcome) (draw (next session.old event)) (next session.old event).size }
+
+    // What could not be made is not given: the screen took nothing.
+    ensures nothing { result ≡ Err TurnFault.NoMemory → screen.new ≡ screen.old }
+    ensures later { S.faults screen.old ≤ S.faults screen.new }
+{
+    match session.step(event) {
+        Ok(()) => {}
+        Err(StepFault::Ended) => return Err(TurnFault::Ended),
+        Err(StepFault::NoMemory) => return Err(TurnFault::NoMemory),
+    }
+    let Ok(drawing) = session.drawing() else {
+        session.fail();
+        return Err(TurnFault::NoMemory);
+    };
+    let done = session.outcome().is_some();
+    let size = session.size();
+    prove!(size.rows() >= 1);
+    let Ok(bytes) = frame(alloc, shown, &drawing, size, done, false) else {
+        session.fail();
+        return Err(TurnFault::NoMemory);
+    };
+    if screen.frame(bytes.as_slice()).is_err() {
+        session.fail();
+        return Err(TurnFault::ScreenFault);
+    }
+    Ok(outcome_of(session))
+}
+
+/// What the session's outcome leaves the prompt at.
+fn outcome_of(session: &Session) -> Turned
+    ensures { result ≡ turned_of session.now.outcome }
+{
+    match session.outcome() {
+        None => Turned::Going,
+        Some(Outcome::Accepted(_)) => Turned::Accepted,
+        Some(Outcome::EndOfFile) => Turned::EndOfFile,
+        Some(Outcome::Interrupted) => Turned::Interrupted,
+    }
+}
