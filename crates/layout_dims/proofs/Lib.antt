@@ -1,0 +1,5 @@
+pub mod Rounds
+pub mod Orders
+pub mod Stages
+pub mod Parts
+pub mod Alike

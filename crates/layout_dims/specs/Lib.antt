@@ -1,0 +1,5 @@
+pub mod Numbers
+pub mod Turns
+pub mod Division
+pub mod Growth
+pub mod Fairness
