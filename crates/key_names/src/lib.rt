@@ -1,0 +1,13 @@
+//! Keys, the text that was read for each, and their names.
+#![tactic(auto)]
+
+mod key;
+mod key_text;
+mod naming;
+#[cfg(test)]
+mod tests;
+
+pub use key::{Key, KeyPress};
+pub use key_text::KeyText;
+pub use naming::{UnknownKey, read_name, write_name};
+pub use std::alloc::AllocError as NoMemory;

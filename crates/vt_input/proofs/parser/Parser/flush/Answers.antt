@@ -1,0 +1,7 @@
+use Rattle.std.proofs.Common.{sym, subst}
+use Rattle.vt_input.specs.Inputs.{Parsing, IsSmall}
+use Rattle.vt_input.proofs.SmallLemmas.{IsSmall-flushed}
+use Rattle.vt_input.proofs.parser.Parser.flush.Goals as goal
+
+pub returns-clause-small : goal.returns-clause-small
+returns-clause-small g c = λ small. subst (λ (p : Parsing). IsSmall p) (sym c.in_ok-keys.ensures.rest) (IsSmall-flushed c.args.self.now small)

@@ -1,0 +1,69 @@
+//! Control sequences (ECMA-48, 5.4) at the front of a text.
+ghost use Rattle.std.specs.Prelude.{◌≡◌};
+ghost use Rattle.vt_input.specs.Sequences.{is_prefix, introducer, is_final, late_after, control_sequence};
+
+/// What the front of a text is, seen as a control sequence of at most 64 characters.
+#[derive(Clone, Copy, Debug, PartialEq, Eq)]
+pub enum ControlSequence {
+    /// The whole text is the front of one, and lacks its final character.
+    Unended,
+    /// That many characters are one.
+    Whole(usize),
+    /// The text does not begin with one.
+    Broken,
+}
+
+/// The most characters of a control sequence.
+const SEQUENCE_LIMIT: usize = 64;
+
+/// Looks for a control sequence at the front of a text.
+pub fn control_sequence_of(text: &[char]) -> ControlSequence
+    ensures { result ≡ control_sequence text.now }
+{
+    if !is_introduced(text) {
+        return ControlSequence::Broken;
+    }
+    let end = text.len().min(SEQUENCE_LIMIT);
+    let mut late = false;
+    for n in 2..end {
+        let c = text[n];
+        if is_final(c) {
+            return ControlSequence::Whole(n + 1);
+        }
+        match late_after(c, late) {
+            Some(after) => late = after,
+            None => return ControlSequence::Broken,
+        }
+    }
+    if text.len() < SEQUENCE_LIMIT {
+        ControlSequence::Unended
+    } else {
+        ControlSequence::Broken
+    }
+}
+
+// The text begins with ESC [.
+fn is_introduced(text: &[char]) -> bool
+    ensures { result ≡ is_prefix introducer text.now }
+{
+    text.len() >= 2 && text[0] == '\u{1B}' && text[1] == '['
+}
+
+fn is_final(c: char) -> bool
+    ensures { result ≡ is_final c }
+{
+    '\u{40}' <= c && c <= '\u{7E}'
+}
+
+// Whether an intermediate character has come with this one; none where it cannot stand here.
+fn late_after(c: char, late: bool) -> Option<bool>
+    ensures { result ≡ late_after c late }
+{
+    if '\u{20}' <= c && c <= '\u{2F}' {
+        Some(true)
+    } else if '\u{30}' <= c && c <= '\u{3F}' && !late {
+        Some(false)
+    } else {
+        None
+    }
+}
