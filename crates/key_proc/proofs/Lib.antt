@@ -1,0 +1,7 @@
+pub mod Choosing
+pub mod Walk
+pub mod Deciding
+pub mod Answering
+pub mod Presses
+pub mod Fewest
+pub mod Flushing

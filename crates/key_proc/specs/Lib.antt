@@ -1,0 +1,9 @@
+pub mod Facts
+pub mod Filters
+pub mod Matching
+pub mod Firing
+pub mod Sizes
+pub mod HeldKeys
+pub mod Choices
+pub mod Decisions
+pub mod Laws

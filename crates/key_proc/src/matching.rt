@@ -1,0 +1,53 @@
+//! Whether bound keys match keys that are held.
+ghost use Rattle.std.specs.Prelude.{◌≡◌, ◌↔◌, IsTrue};
+ghost use Rattle.key_proc.specs.Matching.{same_key, is_any, matches_key, matches, begins, count_any};
+
+use key_names::Key;
+
+// The two keys are one.
+fn is_same(a: Key, b: Key) -> bool
+    ensures test { result ≡ same_key a b }
+    ensures same { IsTrue (same_key a b) ↔ (a ≡ b) }
+{
+    a == b
+}
+
+// The bound key stands for each key.
+fn is_any(bound: Key) -> bool
+    ensures { result ≡ is_any bound }
+{
+    is_same(bound, Key::Any)
+}
+
+fn matches_key(bound: Key, key: Key) -> bool
+    ensures { result ≡ matches_key bound key }
+{
+    is_any(bound) || is_same(bound, key)
+}
+
+/// The bound keys match as many keys, each its own.
+pub(crate) fn matches(bound: &[Key], keys: &[Key]) -> bool
+    ensures { result ≡ matches bound.now keys.now }
+{
+    match bound {
+        [] => keys.is_empty(),
+        [first, rest @ ..] => match keys {
+            [] => false,
+            [key, more @ ..] => matches_key(*first, *key) && matches(rest, more),
+        },
+    }
+}
+
+/// There are more bound keys than keys, and the first of them match.
+pub(crate) fn begins(bound: &[Key], keys: &[Key]) -> bool
+    ensures { result ≡ begins bound.now keys.now }
+{
+    keys.len() < bound.len() && matches(&bound[..keys.len()], keys)
+}
+
+/// The number of bound keys that stand for each key.
+pub(crate) fn count_any(bound: &[Key]) -> usize
+    ensures { result ≡ count_any bound.now }
+{
+    bound.iter().filter(|key| is_any(**key)).count()
+}
