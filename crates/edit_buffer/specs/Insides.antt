@@ -1,0 +1,21 @@
+-- How the fields of a `Buffer` hold its state. The text of the present working line is that of the document alone.
+use Rattle.std.specs.Prelude.{◌≡◌, slice_set}
+use Rattle.edit_buffer.specs.declared.buffers.Buffer.TheInside.{Inside}
+use Rattle.edit_buffer.specs.declared.undo.TheConstants.{MAX_PAIRS}
+use Rattle.edit_buffer.specs.BufferState.{BufferState, IsBufferState}
+
+abbrev pub state_of : Inside → BufferState
+state_of b = record {
+  doc = b.doc;
+  lines = slice_set b.lines.items b.index b.doc.text;
+  index = b.index;
+  undo = b.undo.items;
+  redo = b.redo.items;
+  menu = b.menu;
+}
+
+-- the state is one of a buffer, and either list has room for all pairs
+pub record IsKept (b : Inside) : Type 0 where
+  pub state : IsBufferState (state_of b)
+  pub undo_room : b.undo.capacity ≡ MAX_PAIRS
+  pub redo_room : b.redo.capacity ≡ MAX_PAIRS

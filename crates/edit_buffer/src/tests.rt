@@ -1,0 +1,166 @@
+//! Runs worked out by hand, limits, and each call that allocates once with ample memory.
+ghost use Rattle.std.specs.Prelude.{◌≡◌, ◌≤◌, length, IfOk, IsSomeAnd};
+ghost use Rattle.edit_buffer.specs.BufferState.{ReachWithin};
+
+use crate::{Applied, Buffer, Clip, Edit, EditFault, Ring};
+use std::alloc::Global;
+use std::process::Abort;
+use std::test::Fail;
+use text_doc::{Completion, Completions, Lines, MAX_LENGTH, NoMemory, Text};
+
+/// Returns a buffer on an empty line, with no history.
+fn empty_buffer(alloc: Global) -> Result<Buffer, NoMemory> {
+    let buffer = Buffer::new(alloc, Lines::new(alloc), Text::new(alloc))?;
+    Ok(buffer)
+}
+
+fn insert(rt: &impl Abort, alloc: Global, buffer: &mut Buffer, chars: &[char]) -> Result<(), Fail> {
+    let text = Text::from_chars(alloc, chars)?;
+    assert_eq!(rt; buffer.apply(Edit::Insert(text))?, Applied::Changed);
+    Ok(())
+}
+
+fn assert_doc(rt: &impl Abort, buffer: &Buffer, chars: &[char], cursor: usize) {
+    assert_eq!(rt; buffer.doc().chars(), chars);
+    assert_eq!(rt; buffer.doc().cursor(), cursor);
+    assert!(rt; buffer.doc().mark().is_none());
+}
+
+#[test]
+fn undo_is_bounded(rt: HostRuntime) -> Result<(), Fail> {
+    let mut buffer = empty_buffer(rt.alloc())?;
+    for _ in 0..1_001 {
+        buffer.save()?;
+        insert(&rt, rt.alloc(), &mut buffer, &['a'])?;
+    }
+    assert_eq!(rt; buffer.doc().len(), 1_001);
+    for _ in 0..1_000 {
+        assert!(rt; buffer.undo()?);
+    }
+    assert!(rt; !buffer.undo()?);
+    assert_doc(&rt, &buffer, &['a'], 1);
+    for _ in 0..1_000 {
+        assert!(rt; buffer.redo()?);
+    }
+    assert!(rt; !buffer.redo()?);
+    assert_eq!(rt; buffer.doc().len(), 1_001);
+    Ok(())
+}
+
+fn assert_first(rt: &impl Abort, ring: &Ring, letter: char) {
+    match ring.first() {
+        Some(clip) => assert!(rt; clip.text.equals(&[letter]), "{letter}"),
+        None => panic!(rt; "no clip"),
+    }
+}
+
+#[test]
+fn ring_keeps_sixty_clips(rt: HostRuntime) -> Result<(), Fail> {
+    let mut ring = Ring::new(rt.alloc())?;
+    assert!(rt; ring.first().is_none());
+    // 61 puts, of the characters from U+0041 to U+007D
+    for number in 0..61u8 {
+        let text = Text::from_chars(rt.alloc(), &[char::from(b'A' + number)])?;
+        ring.put(Clip { text, lines: false });
+    }
+    // the newest of 60 first; the first put, U+0041, is gone
+    for number in 0..60u8 {
+        assert_first(&rt, &ring, char::from(b'}' - number));
+        ring.rotate();
+    }
+    assert_first(&rt, &ring, '}');
+    ring.rotate();
+    assert_first(&rt, &ring, '|');
+    Ok(())
+}
+
+/// Returns a buffer with "ab\nc" in the history.
+fn buffer_with_history(rt: &impl Abort, alloc: Global) -> Result<Buffer, Fail> {
+    let entry = Text::from_chars(alloc, &['a', 'b', '\n', 'c'])?;
+    assert!(rt; entry.len() <= MAX_LENGTH);
+    let mut history = Lines::new(alloc);
+    history.push(entry)?;
+    let buffer = Buffer::new(alloc, history, Text::new(alloc))?;
+    Ok(buffer)
+}
+
+#[test]
+fn working_lines(rt: HostRuntime) -> Result<(), Fail> {
+    let mut buffer = buffer_with_history(&rt, rt.alloc())?;
+    assert_eq!(rt; (buffer.lines(), buffer.index()), (2, 1));
+    assert!(rt; buffer.back(7)?);
+    assert_doc(&rt, &buffer, &['a', 'b', '\n', 'c'], 4);
+    insert(&rt, rt.alloc(), &mut buffer, &['!'])?;
+    assert!(rt; buffer.forward(1)?);
+    assert_doc(&rt, &buffer, &[], 0);
+    assert!(rt; buffer.lines() == 2 && buffer.index() == 1);
+    assert!(rt; buffer.line(0).equals(&['a', 'b', '\n', 'c', '!']));
+    buffer.goto(0, 0)?;
+    assert_doc(&rt, &buffer, &['a', 'b', '\n', 'c', '!'], 0);
+    Ok(())
+}
+
+#[test]
+fn too_long(rt: HostRuntime) -> Result<(), Fail> {
+    let mut buffer = empty_buffer(rt.alloc())?;
+    insert(&rt, rt.alloc(), &mut buffer, &['x'])?;
+    let long = vec![in rt.alloc(); 'x'; MAX_LENGTH]?;
+    let refused = buffer.apply(Edit::Insert(Text::from_vec(long)));
+    assert!(rt; matches!(refused, Err(EditFault::TooLong)));
+    assert_doc(&rt, &buffer, &['x'], 1);
+    Ok(())
+}
+
+/// Items that put "xy" in place of the character before the cursor.
+fn items(alloc: Global, count: usize) -> Result<Completions, NoMemory>
+    ensures { IfOk result (ReachWithin 1) }
+{
+    let mut items = Completions::new(alloc);
+    for _ in 0..count {
+        let text = Text::from_chars(alloc, &['x', 'y'])?;
+        items.push(Completion { text, back: 1 })?;
+    }
+    Ok(items)
+}
+
+fn assert_menu(rt: &impl Abort, buffer: &Buffer, count: usize)
+    ensures { IsSomeAnd buffer.now.menu (λ m. (1 ≤ m.original.cursor) × (length m.items ≡ count)) }
+{
+    match buffer.menu() {
+        Some(menu) => {
+            assert!(rt; 1 <= menu.original.cursor());
+            assert_eq!(rt; menu.items.len(), count);
+        }
+        None => panic!(rt; "no menu"),
+    }
+}
+
+#[test]
+fn menu(rt: HostRuntime) -> Result<(), Fail> {
+    let mut buffer = empty_buffer(rt.alloc())?;
+    assert!(rt; !buffer.start_menu(Completions::new(rt.alloc()))?);
+    insert(&rt, rt.alloc(), &mut buffer, &['a', 'b'])?;
+    assert!(rt; 1 <= buffer.doc().cursor());
+    assert!(rt; buffer.start_menu(items(rt.alloc(), 1)?)?);
+    assert_menu(&rt, &buffer, 1);
+    buffer.choose(Some(0))?;
+    assert_doc(&rt, &buffer, &['a', 'x', 'y'], 3);
+    buffer.cancel_menu();
+    assert!(rt; buffer.menu().is_none());
+    assert_doc(&rt, &buffer, &['a', 'b'], 2);
+    Ok(())
+}
+
+#[test]
+fn menu_keeps_ten_thousand_items(rt: HostRuntime) -> Result<(), Fail> {
+    let mut buffer = empty_buffer(rt.alloc())?;
+    insert(&rt, rt.alloc(), &mut buffer, &['a'])?;
+    assert!(rt; 1 <= buffer.doc().cursor());
+    assert!(rt; buffer.start_menu(items(rt.alloc(), 1)?)?);
+    assert_menu(&rt, &buffer, 1);
+    buffer.add_items(items(rt.alloc(), 9_999)?)?;
+    assert_menu(&rt, &buffer, 10_000);
+    buffer.add_items(items(rt.alloc(), 1)?)?;
+    assert_menu(&rt, &buffer, 10_000);
+    Ok(())
+}
