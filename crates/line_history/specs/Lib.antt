@@ -1,0 +1,5 @@
+pub mod History
+pub mod Keeping
+pub mod Laws
+pub mod Reading
+pub mod Writing
