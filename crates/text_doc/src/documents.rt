@@ -52,6 +52,19 @@ impl Doc {
         })
     }
 
+    /// Takes this text in exchange for its own, which `text` then holds, with the cursor at this place of it and
+    /// without a mark. The memory of both is kept, so this asks for none.
+    pub fn exchange(&mut self, text: &mut Text, cursor: usize)
+        requires place { cursor ≤ length text.old }
+        requires short { length text.old ≤ MAX_LENGTH }
+        ensures document { self.new ≡ record { text = text.old; cursor = cursor; mark = None } }
+        ensures text { text.new ≡ self.old.text }
+    {
+        text.exchange_items(&mut self.chars);
+        self.cursor = cursor;
+        self.mark = None;
+    }
+
     /// Returns an equal document, its mark included.
     pub fn copy(&self) -> Result<Doc, NoMemory>
         ensures { IfOk result (λ copy. copy ≡ self.now) }

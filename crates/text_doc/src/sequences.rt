@@ -4,6 +4,7 @@ ghost use Rattle.std.specs.Prelude.{◌≡◌, ◌<◌, ◌↔◌, [], ◌∷◌
 use crate::NoMemory;
 use std::alloc::Global;
 use std::marker::Model;
+use std::mem;
 
 /// What a `Sequence` can hold and copy.
 pub trait Item: Drop {
@@ -59,6 +60,14 @@ impl<T: Drop> Sequence<T> {
     {
         let Sequence { items } = self;
         items
+    }
+
+    // The list takes these items in exchange for its own.
+    pub(crate) fn exchange_items(&mut self, items: &mut Vec<T>)
+        ensures list { self.new ≡ items.old.items }
+        ensures items { items.new.items ≡ self.old }
+    {
+        mem::swap(&mut self.items, items);
     }
 
     /// Returns the number of items.
