@@ -114,8 +114,9 @@ impl Grid {
         Ok(())
     }
 
-    // Puts whole cells in place of those of a row from a column on.
-    fn lay(&mut self, row: u32, col: u32, cells: &[Cell])
+    /// Puts whole cells in place of those of a row from a column on. A half of a wide character that stays uncovered
+    /// becomes blank.
+    pub fn lay(&mut self, row: u32, col: u32, cells: &[Cell])
         requires whole { IsWhole cells.now }
         requires row_within { row < length self.old }
         requires fits { col + length cells.now ≤ columns self.old }

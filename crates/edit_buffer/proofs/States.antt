@@ -1,17 +1,18 @@
 -- How a state follows from the fields of a buffer.
-use Rattle.std.proofs.Common.{◌≡◌, ℕ, ◌≤◌, List, [], ◌∷◌, ◌++◌, length, Option, Some, None, sym, ap, refl, arith, length-append}
+use Rattle.std.proofs.Common.{◌≡◌, ℕ, ◌≤◌, List, [], ◌∷◌, ◌++◌, ◌<◌, length, get_or, slice_set, Option, Some, None, sym, ap, refl, ◌∙◌, arith, length-append}
 use Rattle.std.proofs.Math.Seq.{get_or-append_seam}
-use Rattle.std.proofs.lemmas.List.{length-set, get_or-set_same, set-set, set_at}
-use Rattle.std.proofs.lemmas.List.Elements.{All-set, All-append, All-cons, All-nil, All-drop}
-use Rattle.std.specs.List.{All}
+use Rattle.std.proofs.lemmas.List.{length-set, get_or-set_same, get_or-set_other, set-set, set_at, set_comm, set-get_or}
+use Rattle.std.proofs.lemmas.List.Edits.{swap_is}
+use Rattle.std.proofs.lemmas.List.Elements.{All-get_or, All-set, All-append, All-cons, All-nil, All-drop}
+use Rattle.std.specs.List.{All, swap}
 use Rattle.text_doc.specs.Document.{Document, IsDocument}
 use Rattle.text_doc.specs.declared.documents.TheConstants.{MAX_LENGTH}
 use Rattle.edit_buffer.specs.declared.menus.Menu.{Menu}
 use Rattle.edit_buffer.specs.declared.buffers.Buffer.TheInside.{Inside}
-use Rattle.edit_buffer.specs.BufferState.{BufferState, IsBufferState, with_document}
+use Rattle.edit_buffer.specs.BufferState.{BufferState, IsBufferState, line_of, with_document}
 use Rattle.edit_buffer.specs.Insides.{state_of}
 use Rattle.edit_buffer.specs.Menus.{choice, chosen_in, cancelled_in}
-use Rattle.edit_buffer.specs.Moves.{newest, opened}
+use Rattle.edit_buffer.specs.Moves.{newest, opened, moved_to}
 
 -- another document in the fields is another document of the state
 pub state_of-doc : (b : Inside) (d : Document) → state_of (record b { doc = d }) ≡ with_document (state_of b) d
@@ -66,4 +67,38 @@ IsBufferState-opened history text entries short = record {
       (All-cons (λ line. length line ≤ MAX_LENGTH) text [] short (All-nil (λ line. length line ≤ MAX_LENGTH)));
   pairs = omega arith;
   menu = λ m e. cc;
+}
+
+-- the text that is left goes to its place, and the line that is reached is that of the document
+lines_exchanged : (lines : List (List ℕ)) (from to : ℕ) (left : List ℕ) → from < length lines → to < length lines → (from ≡ to → ⊥)
+    → slice_set (slice_set (swap lines from to) from left) to (get_or lines to []) ≡ slice_set lines from left
+lines_exchanged lines from to left from_within to_within other =
+    let there : List ℕ = get_or lines to [] in
+    let here : List ℕ = get_or lines from [] in
+    let first : List (List ℕ) = slice_set lines from there in
+    let P : List (List ℕ) → List (List ℕ) = λ xs. slice_set (slice_set xs from left) to there in
+    ap P (sym (swap_is lines from to [] from_within to_within))
+    ∙ ap (λ xs. slice_set xs to there) (sym (set_comm first from to left here other) ∙ ap (λ xs. slice_set xs to here) (set-set lines from there left))
+    ∙ set-set (slice_set lines from left) to here there
+    ∙ ap (slice_set (slice_set lines from left) to) (sym (get_or-set_other lines from to left [] (λ e. other (sym e))))
+    ∙ set-get_or (slice_set lines from left) to []
+
+-- going to another line
+pub state_of-moved : (b : Inside) (line at : ℕ) → b.index < length b.lines.items → line < length b.lines.items → (b.index ≡ line → ⊥) → (d : Document)
+    → d ≡ record { text = get_or b.lines.items line []; cursor = at; mark = None }
+    → (lines : List (List ℕ)) → lines ≡ slice_set (swap b.lines.items b.index line) b.index b.doc.text
+    → record { doc = d; lines = slice_set lines line d.text; index = line; undo = b.undo.items; redo = b.redo.items; menu = b.menu } ≡ moved_to (state_of b) line at
+state_of-moved b line at index within other d document lines exchanged =
+    let reached : get_or (slice_set b.lines.items b.index b.doc.text) line [] ≡ get_or b.lines.items line [] = get_or-set_other b.lines.items b.index line b.doc.text [] (λ e. other (sym e)) in
+    rw (document, exchanged, reached, lines_exchanged b.lines.items b.index line b.doc.text index within other) refl
+
+-- a line of a buffer is short enough for a document
+pub IsBufferState-moved_to : (b : BufferState) (line at : ℕ) → IsBufferState b → line < length b.lines → at ≤ length (line_of b line) → IsBufferState (moved_to b line at)
+IsBufferState-moved_to b line at kept within place = record {
+  document = record { short = All-get_or (λ text. length text ≤ MAX_LENGTH) b.lines line [] within kept.short; cursor_within = place; mark_within = λ m e. cc };
+  index = within;
+  present = refl;
+  short = kept.short;
+  pairs = kept.pairs;
+  menu = kept.menu;
 }

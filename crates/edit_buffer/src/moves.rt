@@ -1,10 +1,11 @@
-//! Going from one working line to another. A move costs a copy of the text that is left and of the one that is reached.
-ghost use Rattle.std.specs.Prelude.{◌≡◌, ◌<◌, ◌≤◌, length, IfOk, OnOk, OnErr};
+//! Going from one working line to another. A move exchanges texts and copies none.
+ghost use Rattle.std.specs.Prelude.{◌≡◌, ◌<◌, ◌≤◌, [], length, slice_index_or, slice_set, None, IfOk, OnOk, OnErr};
+ghost use Rattle.std.specs.List.{swap};
 ghost use Rattle.edit_buffer.specs.BufferState.{line_of};
 ghost use Rattle.edit_buffer.specs.Moves.{moved_to, can_go_back, gone_back, can_go_forward, gone_forward};
 
 use crate::Buffer;
-use text_doc::{Doc, NoMemory};
+use text_doc::{Doc, MAX_LENGTH, NoMemory, Text};
 
 impl Buffer {
     /// Goes up to `steps` working lines back, to the end of the text. Returns whether it went to another line.
@@ -52,12 +53,22 @@ impl Buffer {
             self.doc.set_cursor(at);
             return Ok(());
         }
-        let text = self.lines[line].copy()?;
-        let doc = Doc::new(text.allocator(), text, at)?;
-        let left = self.doc.part(0, self.doc.len())?;
-        self.lines[self.index] = left;
+        go_to_line(&mut self.doc, &mut self.lines, self.index, line, at);
         self.index = line;
-        self.doc = doc;
         Ok(())
     }
+}
+
+// The document gets the text of `line`, and its own goes to the place of the line that was present.
+fn go_to_line(doc: &mut Doc, lines: &mut Vec<Text>, present: usize, line: usize, at: usize)
+    requires present { present < length lines.old.items }
+    requires line { line < length lines.old.items }
+    requires place { at ≤ length (slice_index_or lines.old.items line []) }
+    requires short { length (slice_index_or lines.old.items line []) ≤ MAX_LENGTH }
+    ensures doc { doc.new ≡ record { text = slice_index_or lines.old.items line []; cursor = at; mark = None } }
+    ensures lines { lines.new.items ≡ slice_set (swap lines.old.items present line) present doc.old.text }
+{
+    let lines = lines.as_mut_slice();
+    lines.swap(present, line);
+    doc.exchange(&mut lines[present], at);
 }
