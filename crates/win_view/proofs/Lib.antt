@@ -1,0 +1,15 @@
+pub mod CellLaws
+pub mod ColumnCuts
+pub mod CursorLaws
+pub mod FirstRows
+pub mod Flows
+pub mod GreedyRows
+pub mod HeldRows
+pub mod Holds
+pub mod LinePlaces
+pub mod NarrowCounts
+pub mod RowCounts
+pub mod ScrollLaws
+pub mod Shows
+pub mod WindowLaws
+pub mod WindowRows

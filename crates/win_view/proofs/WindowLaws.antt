@@ -1,0 +1,83 @@
+-- What a window shows: as many rows as it has, each as wide as it, and its cursor among them.
+use Rattle.std.proofs.Common.{◌≡◌, ℕ, ◌-◌, ◌≤◌, Bool, true, false, List, [], ◌∷◌, ◌++◌, length, map, drop, arith, All, length-append, length-take}
+use Rattle.std.specs.List.{flat_map}
+use Rattle.std.proofs.lemmas.List.{length-map, length-replicate}
+use Rattle.std.proofs.lemmas.List.Elements.{All-nil, All-cons, All-head, All-tail, All-append, All-take, All-drop}
+use Rattle.cell_grid.specs.declared.cell.Cell.{Cell}
+use Rattle.cell_grid.specs.Cell.{blank}
+use Rattle.cell_grid.specs.Grid.{AllRows, IsRow, blank_rows}
+use Rattle.cell_grid.specs.Row.{IsWhole, blank_row}
+use Rattle.cell_grid.specs.Size.{Extent}
+use Rattle.cell_grid.proofs.GridLemmas.{AllRows-blank_rows, row-blank_row}
+use Rattle.cell_grid.proofs.RowLemmas.{whole-append}
+use Rattle.win_view.specs.declared.contents.Content.{Content}
+use Rattle.win_view.specs.declared.scrolls.Scroll.{Scroll}
+use Rattle.win_view.specs.Contents.{content_rows, rows_by}
+use Rattle.win_view.specs.Greedy.{IsHeld}
+use Rattle.win_view.specs.Rows.{rows_of}
+use Rattle.win_view.specs.Views.{cut_by, filled, shown_rows, window_rows}
+use Rattle.win_view.proofs.ColumnCuts.{length-columns_from, whole-columns_from}
+use Rattle.win_view.proofs.GreedyRows.{held-rows_of}
+
+-- ---- a row filled up
+
+pub row-filled : (width : ℕ) (row : List Cell) → IsHeld width row → IsRow width (filled width row)
+row-filled width row held = record {
+  long = omega (arith, length-append row (blank_row (width - length row)), length-replicate (width - length row) blank, held.fits);
+  whole = whole-append false row (blank_row (width - length row)) held.whole (row-blank_row (width - length row)).whole;
+}
+
+-- ---- the rows of the content
+
+held-lines : (width : ℕ) (lines : List (List Cell)) → 1 ≤ width → All IsWhole lines → All (IsHeld width) (flat_map (rows_of width) lines)
+held-lines width [] some whole = All-nil (IsHeld width)
+held-lines width (line ∷ lines) some whole =
+    All-append (IsHeld width) (rows_of width line) (flat_map (rows_of width) lines)
+    (held-rows_of width line some (All-head IsWhole line lines whole)) (held-lines width lines some (All-tail IsWhole line lines whole))
+
+-- a row as the window shows it
+abbrev pub IsShown : Bool → ℕ → ℕ → List Cell → Type 0
+IsShown wrap across width row = IsHeld width (cut_by wrap across width row)
+
+shown-rows : (wrap : Bool) (across width : ℕ) (lines : List (List Cell)) → 1 ≤ width → All IsWhole lines → All (IsShown wrap across width) (rows_by wrap width lines)
+shown-rows true across width lines some whole = held-lines width lines some whole
+shown-rows false across width [] some whole = All-nil (IsShown false across width)
+shown-rows false across width (line ∷ lines) some whole =
+    All-cons (IsShown false across width) line lines
+    (record { whole = whole-columns_from across width line (All-head IsWhole line lines whole); fits = length-columns_from across width line })
+    (shown-rows false across width lines some (All-tail IsWhole line lines whole))
+
+-- ---- the rows of the window
+
+rows-filled : (wrap : Bool) (across width : ℕ) (rows : List (List Cell)) → All (IsShown wrap across width) rows → AllRows width (map (λ row. filled width (cut_by wrap across width row)) rows)
+rows-filled wrap across width [] shown = tt
+rows-filled wrap across width (row ∷ rows) shown = (
+  row-filled width (cut_by wrap across width row) (All-head (IsShown wrap across width) row rows shown),
+  rows-filled wrap across width rows (All-tail (IsShown wrap across width) row rows shown),
+)
+
+AllRows-append : (cols : ℕ) (above below : List (List Cell)) → AllRows cols above → AllRows cols below → AllRows cols (above ++ below)
+AllRows-append cols [] below first second = second
+AllRows-append cols (row ∷ above) below first second = (first.0, AllRows-append cols above below first.1 second)
+
+-- each row is as wide as the window and whole
+pub AllRows-window_rows : (c : Content) (size : Extent) (scroll : Scroll) → 1 ≤ size.cols → All IsWhole c.lines → AllRows size.cols (window_rows c size scroll)
+AllRows-window_rows c size scroll some whole =
+    let shown = shown_rows c size scroll in
+    let IsSeen : List Cell → Type 0 = IsShown c.wrap scroll.across size.cols in
+    let all = shown-rows c.wrap scroll.across size.cols c.lines some whole in
+    AllRows-append size.cols (map (λ row. filled size.cols (cut_by c.wrap scroll.across size.cols row)) shown) (blank_rows (size.rows - length shown) size.cols)
+    (rows-filled c.wrap scroll.across size.cols shown (All-take IsSeen size.rows (drop scroll.down (content_rows c size.cols)) (All-drop IsSeen scroll.down (content_rows c size.cols) all)))
+    (AllRows-blank_rows (size.rows - length shown) size.cols)
+
+-- there are as many as the window has
+pub length-window_rows : (c : Content) (size : Extent) (scroll : Scroll) → length (window_rows c size scroll) ≡ size.rows
+length-window_rows c size scroll =
+    let shown = shown_rows c size scroll in
+    omega (
+      arith,
+      length-append (map (λ row. filled size.cols (cut_by c.wrap scroll.across size.cols row)) shown) (blank_rows (size.rows - length shown) size.cols),
+      length-map shown (λ row. filled size.cols (cut_by c.wrap scroll.across size.cols row)),
+      length-replicate (size.rows - length shown) (blank_row size.cols),
+      length-take size.rows (drop scroll.down (content_rows c size.cols)),
+    )

@@ -1,0 +1,28 @@
+//! The view of a window: lines that wrap, a scroll that follows the cursor, and the cells that the window shows.
+#![tactic(auto)]
+
+mod contents;
+mod cursors;
+mod cuts;
+mod first_rows;
+mod grids;
+mod heights;
+pub mod laws;
+mod narrow_cells;
+mod places;
+mod rows;
+mod scrolls;
+mod settles;
+#[cfg(test)]
+mod tests;
+mod viewports;
+mod views;
+mod wraps;
+
+pub use contents::Content;
+pub use heights::height;
+pub use rows::count_rows;
+pub use scrolls::{Scroll, scroll_to};
+pub use settles::settle;
+pub use views::{WindowView, view};
+pub use wraps::wrap;
