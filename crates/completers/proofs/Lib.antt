@@ -1,0 +1,11 @@
+pub mod TreeLists
+pub mod MatchingLemmas
+pub mod TypedLemmas
+pub mod NestingLemmas
+pub mod NumberLemmas
+pub mod BracketLemmas
+pub mod SuggestingLemmas
+pub mod DistinctLemmas
+pub mod ReachLemmas
+pub mod GatheringLemmas
+pub mod LawsOfNumbers

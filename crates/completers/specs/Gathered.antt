@@ -1,0 +1,35 @@
+-- How completions are gathered: the lists of the trees so far stand one behind the other.
+use Rattle.std.specs.Prelude.{◌≡◌, ℕ, not, List, [], ◌∷◌, ◌++◌, length, map, filter}
+use Rattle.std.specs.Str.{bytes_eq}
+use Rattle.text_doc.specs.Document.{Document}
+use Rattle.text_doc.specs.declared.completions.Completion.{Completion}
+use Rattle.completers.specs.Trees.{Tree}
+use Rattle.completers.specs.Listed.{all_items}
+
+-- of completions with equal texts the first
+abbrev pub first_texts : List Completion → List Completion
+first_texts [] = []
+first_texts (item ∷ items) = item ∷ filter (λ later. not (bytes_eq later.text item.text)) (first_texts items)
+
+-- the same without those whose text is what is typed
+abbrev pub own_texts : List ℕ → List Completion → List Completion
+own_texts typed items = filter (λ item. not (bytes_eq item.text typed)) (first_texts items)
+
+-- the lists in one, of which the last one comes first
+abbrev pub joined : List (List Completion) → List Completion
+joined [] = []
+joined (items ∷ lists) = joined lists ++ items
+
+-- where each of them starts
+abbrev pub starts_of : List (List Completion) → List ℕ
+starts_of [] = []
+starts_of (items ∷ lists) = starts_of lists ++ length (joined lists) ∷ []
+
+-- all completions of each tree
+abbrev pub lists_of : Document → List Tree → List (List Completion)
+lists_of d trees = map (λ tree. all_items tree d) trees
+
+-- these are the completions of the trees, and the places where those of each tree start
+pub record Gathers (d : Document) (trees : List Tree) (items : List Completion) (starts : List ℕ) : Type 0 where
+  pub items_are : items ≡ joined (lists_of d trees)
+  pub starts_are : starts ≡ starts_of (lists_of d trees)

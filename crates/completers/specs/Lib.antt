@@ -1,0 +1,12 @@
+pub mod Typed
+pub mod Marked
+pub mod Words
+pub mod Nested
+pub mod Trees
+pub mod TreeCodes
+pub mod Listed
+pub mod Gathered
+pub mod Suggested
+pub mod Numbers
+pub mod Pairs
+pub mod Verdicts
