@@ -1,0 +1,4 @@
+pub mod Lines
+pub mod ScriptLine
+pub mod Spelled
+pub mod Spelling
