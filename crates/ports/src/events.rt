@@ -1,6 +1,7 @@
 // What comes to a session.
 ghost use Rattle.std.specs.Prelude.{◌≡◌, IfOk};
 
+use cell_grid::Size;
 use text_doc::{Bytes, NoMemory};
 
 /// One thing that comes to a session.
@@ -10,6 +11,8 @@ pub enum Event {
     Start,
     /// Bytes were read from the terminal.
     Piece(Bytes),
+    /// The terminal has this size now.
+    Resize(Size),
     /// Nothing more will be read.
     End,
 }
@@ -25,6 +28,7 @@ impl Event {
                 let bytes = bytes.copy()?;
                 Ok(Event::Piece(bytes))
             }
+            Event::Resize(size) => Ok(Event::Resize(*size)),
             Event::End => Ok(Event::End),
         }
     }

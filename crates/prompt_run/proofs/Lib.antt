@@ -1,6 +1,8 @@
 pub mod DrawLemmas
-pub mod LineLemmas
 pub mod PlayLemmas
+pub mod ReplacementWidth
+pub mod ScriptLemmas
 pub mod ShowLemmas
 pub mod SourceLemmas
+pub mod TurnLemmas
 pub mod WindowLemmas

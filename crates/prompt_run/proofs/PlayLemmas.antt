@@ -1,197 +1,161 @@
 -- How a player keeps up with a play.
-use Rattle.std.proofs.Common.{◌≡◌, ℕ, ◌+◌, ◌≤◌, Bool, true, false, cond, List, [], ◌∷◌, ◌++◌, length, nat_le, ◌||◌, ◌&&◌, ◌==◌, is_some, Option, Some, None, if◌then◌else◌, refl, ap, sym, ◌∙◌, subst, arith}
+use Rattle.std.proofs.Common.{◌≡◌, ℕ, ◌≤◌, Bool, true, false, List, [], ◌∷◌, ◌++◌, length, ◌||◌, is_some, Option, Some, None, if◌then◌else◌, refl, ap, sym, ◌∙◌, subst, arith, append-nil, append_assoc}
 use Rattle.ports.specs.declared.events.Event.{Event}
-use Rattle.ports.specs.declared.events.Event.TheVariants.{Start, Piece, End}
+use Rattle.ports.specs.declared.events.Event.TheVariants.{Start, Piece, Resize, End}
 use Rattle.std.proofs.lemmas.Bool.{false≢true}
-use Rattle.std.proofs.Math.Dec.{eqb-suc-zero}
+use Rattle.std.specs.List.{concat}
+use Rattle.bstr.specs.Utf8.{lossy_chars}
 use Rattle.cell_grid.specs.Size.{Extent}
 use Rattle.cell_grid.specs.declared.drawing.Drawing.{Drawing}
-use Rattle.diff_render.specs.Frames.{put, Agree, Begins, Shows, WasDrawnAt, screen_after}
+use Rattle.diff_render.specs.Frames.{put, Agree, Begins, screen_after}
 use Rattle.diff_render.specs.declared.shown.OnScreen.{OnScreen}
-use Rattle.term_model.specs.Obeying.{forgotten}
+use Rattle.term_model.specs.Obeying.{forgotten, obeyed}
 use Rattle.term_model.specs.Term.{Term, IsTerminal}
-use Rattle.session_core.specs.Draw.{IsOneRow, draw}
+use Rattle.session_core.specs.Draw.{draw, settle, window_of}
 use Rattle.session_core.specs.Keys.{is_accept, edited, ran}
 use Rattle.session_core.specs.Next.{next}
-use Rattle.session_core.specs.State.{State, has_ended, opened}
+use Rattle.session_core.specs.State.{State, has_ended}
 use Rattle.session_core.specs.declared.outcomes.Outcome.TheVariants.{Accepted}
-use Rattle.session_core.specs.Typed.{IsTyped}
-use Rattle.session_core.proofs.TypedLemmas.{ran-typed}
-use Rattle.prompt_run.specs.Lines.{lines_of, onto_first, piece_in, piece_of}
-use Rattle.prompt_run.specs.Play.{Play, accepted, begun, done, done_by, ended_by, output, played, printables, whole_play, refusal, replay_size, taken, waiting}
-use Rattle.prompt_run.specs.Terminals.{Obeys}
+use Rattle.win_view.proofs.WindowLaws.{length-window_rows}
+use Rattle.session_core.specs.Draw.{content_of}
+use Rattle.prompt_run.specs.FramesShown.{FramesShow, obeying}
+use Rattle.prompt_run.specs.Play.{Play, accepted, done, done_by}
+use Rattle.prompt_run.specs.Playing.{Holds, KeepsFrames}
+use Rattle.prompt_run.specs.Run.{Run, base_at, ran_on, shown_at, size_after, terminal_at}
+use Rattle.prompt_run.specs.Terminals.{Keeps, Obeys}
 use Rattle.prompt_run.specs.Turn.{ShowsState}
-use Rattle.prompt_run.proofs.ShowLemmas.{put-agree, begins_again}
-use Rattle.prompt_run.specs.Playing.{Holds, IsShort, IsPlaying, PlaysLine}
 use Rattle.prompt_run.specs.declared.players.Player.{Player}
+use Rattle.prompt_run.proofs.TurnLemmas.{drawn_behind}
+use Rattle.prompt_run.proofs.ShowLemmas.{agree_at, base_agree, begins_again, begins_at, put-agree}
 
--- a line that was read and fits or not
-pub plays_piece : (fits : Bool) (p : Play) (bytes : List ℕ) (player : Player) → fits ≡ nat_le (p.printed + printables bytes) 77
-    → (fits ≡ true → IsPlaying player (taken p bytes)) → PlaysLine fits p (Some bytes) player
-plays_piece true p bytes player test goes =
-    (taken p bytes, goes refl, λ number rest. ap (λ b. cond b (rest (taken p bytes)) (p, Some number)) (sym test))
-plays_piece false p bytes player test goes = λ number rest. ap (λ b. cond b (rest (taken p bytes)) (p, Some number)) (sym test)
-
--- an event behind the end changes nothing
-pub held_ended : (player : Player) (p : Play) (event : Event) → Holds player p → has_ended player.session ≡ true → Holds player (done p event)
-held_ended player p event holds ended =
-    let over : has_ended p.state ≡ true = ap has_ended (sym holds.state) ∙ ended in
-    let P : Bool → Type 0 = λ b. Holds player (done_by b p event) in subst P (sym over) holds
-
--- one before it makes the next state, shows it, and keeps what that accepts
-pub held_next : (old new : Player) (p : Play) (event : Event) → Holds old p → has_ended old.session ≡ false → new.session ≡ next old.session event
-    → (frame : List ℕ) → Obeys old.screen.terminal frame new.screen.terminal → ShowsState old.shown new.session frame
-    → new.shown ≡ screen_after (is_some new.session.outcome) (draw new.session) new.session.size
-    → (next p.state event).size ≡ replay_size
-    → new.answers ≡ old.answers ++ accepted new.session.outcome → new.printed ≡ old.printed → Holds new (done p event)
-held_next old new p event holds going state frame obeys shows shown size answers printed =
-    let on : has_ended p.state ≡ false = ap has_ended (sym holds.state) ∙ going in
-    let is : new.session ≡ next p.state event = state ∙ ap (λ s. next s event) holds.state in
-    let begins = holds.begins on in
-    let S : State = next p.state event in
-    let seen : Agree new.screen.terminal (put old.screen.terminal 0 (draw S) (is_some S.outcome)) =
-    let P : State → Type 0 = λ s. ShowsState old.shown s frame in
-    let these : ShowsState old.shown S frame = subst P is shows in
-    let E : Extent → Type 0 = λ e. Shows e old.shown (draw S) (is_some S.outcome) frame in
-    let T : Term → Type 0 = λ x. Agree x (put old.screen.terminal 0 (draw S) (is_some S.outcome)) in
-    subst T (sym obeys.obeyed) (subst E size these.shows old.screen.terminal 0 begins) in
-    let kept : new.shown ≡ screen_after (is_some S.outcome) (draw S) replay_size =
-    shown ∙ ap (λ s. screen_after (is_some s.outcome) (draw s) s.size) is ∙ ap (λ e. screen_after (is_some S.outcome) (draw S) e) size in
-    let P : Bool → Type 0 = λ b. Holds new (done_by b p event) in
-    subst P (sym on) (record {
-      state = is;
-      size = size;
-      agrees = seen ∙ ap forgotten (put-agree old.screen.terminal p.screen 0 (draw S) (is_some S.outcome) holds.agrees);
-      begins = λ still. begins_by S (is_some S.outcome) (goes_on S.failed (is_some S.outcome) still) new.shown new.screen.terminal old.shown old.screen.terminal begins obeys.terminal kept seen;
-      drawn = drawn_by (is_some S.outcome) (draw S) new.shown kept;
-      answers = answers ∙ ap (λ lines. lines ++ accepted new.session.outcome) holds.answers ∙ ap (λ s. p.answers ++ accepted s.outcome) is;
-      printed = printed ∙ holds.printed;
-    })
-  where
-    goes_on : (a b : Bool) → (a || b) ≡ false → b ≡ false
-    goes_on true b e = absurd (false≢true (sym e))
-    goes_on false b e = e
-
-    begins_by : (s : State) (over : Bool) → over ≡ false → (shown : OnScreen) (t : Term) (before : OnScreen) (x : Term) → Begins replay_size before x 0 → IsTerminal t
-        → shown ≡ screen_after over (draw s) replay_size → Agree t (put x 0 (draw s) over) → Begins replay_size shown t 0
-    begins_by s true e shown t before x begins terminal kept seen = absurd (false≢true (sym e))
-    begins_by s false e shown t before x begins terminal kept seen =
-        let P : OnScreen → Type 0 = λ screen. Begins replay_size screen t 0 in
-        subst P (sym kept) (begins_again replay_size before x t (draw s) begins terminal (omega arith) seen)
-
-    drawn_by : (over : Bool) (drawing : Drawing) (shown : OnScreen) → shown ≡ screen_after over drawing replay_size → WasDrawnAt replay_size shown
-    drawn_by over drawing shown kept =
-        let P : OnScreen → Type 0 = λ screen. WasDrawnAt replay_size screen in subst P (sym kept) (elim over as (λ b. P (screen_after b drawing replay_size)) [ true ↦ tt | false ↦ refl ])
-
--- a short text fits one row
-short_fits : (s : State) (most : ℕ) → IsTyped most s.doc → most ≤ 77 → s.size ≡ replay_size → IsOneRow s
-short_fits s most typed few size = record { printable = typed.printable; fits = omega (arith, typed.few, ap (λ e. e.cols) size) }
+-- ---- sizes
 
 -- running keys keeps the size
 ran-size : (s : State) (bytes : List ℕ) → (ran s bytes).size ≡ s.size
 ran-size s [] = refl
-ran-size s (byte ∷ bytes) = by (is_accept byte) (ran-size (record s { doc = edited s.doc byte }) bytes)
+ran-size s (byte ∷ bytes) = by (is_accept byte) (ran-size (settle (record s { doc = edited s.doc byte })) bytes)
   where
-    by : (b : Bool) → (ran (record s { doc = edited s.doc byte }) bytes).size ≡ s.size
-        → (if b then record s { outcome = Some (Accepted s.doc.text); kept = bytes } else ran (record s { doc = edited s.doc byte }) bytes).size ≡ s.size
+    by : (b : Bool) → (ran (settle (record s { doc = edited s.doc byte })) bytes).size ≡ s.size
+        → (if b then settle (record s { outcome = Some (Accepted s.doc.text); kept = bytes }) else ran (settle (record s { doc = edited s.doc byte })) bytes).size ≡ s.size
     by true rest = refl
     by false rest = rest
 
--- a piece that fits leaves the text short
-pub short_taken : (p : Play) (bytes : List ℕ) → IsShort p → p.printed + printables bytes ≤ 77 → IsShort (taken p bytes)
-short_taken p bytes short few = by (has_ended p.state)
-  where
-    by : (b : Bool) → IsShort (done_by b (record p { printed = p.printed + printables bytes }) (Piece bytes))
-    by true = record {
-      typed = record { printable = short.typed.printable; few = omega (arith, short.typed.few) };
-      few = few;
-    }
-    by false = record { typed = ran-typed p.state bytes p.printed short.typed; few = few }
-
--- the end of the input leaves the text as it is
-pub short_finished : (p : Play) → IsShort p → IsShort (done p End)
-short_finished p short = by (has_ended p.state)
-  where
-    by : (b : Bool) → IsShort (done_by b p End)
-    by true = short
-    by false = record { typed = short.typed; few = short.few }
-
--- the beginning has no text
-pub short_begun : IsShort begun
-short_begun = record { typed = record { printable = refl; few = omega arith }; few = omega arith }
-
--- the line fits one row behind a piece, at the end of the input and at the beginning
-pub fits_piece : (player : Player) (p : Play) (bytes : List ℕ) → IsPlaying player p → p.printed + printables bytes ≤ 77
-    → IsOneRow (next player.session (Piece bytes))
-fits_piece player p bytes is few =
-    let P : State → Type 0 = λ s. IsOneRow (next s (Piece bytes)) in
-    subst P (sym is.holds.state)
-    (short_fits (ran p.state bytes) (p.printed + printables bytes) (ran-typed p.state bytes p.printed is.short.typed) few (ran-size p.state bytes ∙ is.holds.size))
-
-pub fits_end : (player : Player) (p : Play) → IsPlaying player p → IsOneRow (next player.session End)
-fits_end player p is =
-    let P : State → Type 0 = λ s. IsOneRow (next s End) in
-    subst P (sym is.holds.state) (short_fits (next p.state End) p.printed is.short.typed is.short.few is.holds.size)
-
-pub fits_start : (player : Player) → Holds player (waiting replay_size) → IsOneRow (next player.session Start)
-fits_start player holds =
-    let P : State → Type 0 = λ s. IsOneRow (next s Start) in
-    subst P (sym holds.state) (short_fits (next (opened replay_size 0) Start) 0 (record { printable = refl; few = omega arith }) (omega arith) refl)
-
--- an event keeps the size
-pub next-size : (s : State) (event : Event) → (next s event).size ≡ s.size
-next-size s Start = ran-size (record s { kept = [] }) s.kept
+-- the size behind an event
+pub next-size : (s : State) (event : Event) → (next s event).size ≡ size_after event s.size
+next-size s Start = ran-size (settle (record s { kept = [] })) s.kept
 next-size s (Piece bytes) = ran-size s bytes
+next-size s (Resize size) = refl
 next-size s End = refl
 
--- ---- a script
+-- a drawing is no higher than the terminal
+pub draw-high : (s : State) → length (draw s).grid ≤ s.size.rows
+draw-high s = omega (arith, length-window_rows (content_of s) (window_of s) s.scroll)
 
--- what a line says before the bytes behind it
-piece_before : (long past : Bool) (line behind : List ℕ) → past ≡ (long && (length behind == 0))
-    → (if past then None else piece_of line) ≡ piece_in long line (lines_of behind)
-piece_before false past line behind is = ap (λ b. if b then None else piece_of line) is
-piece_before true past line [] is = ap (λ b. if b then None else piece_of line) is
-piece_before true past line (byte ∷ bytes) is =
-    ap (λ b. if b then None else piece_of line) is ∙ ap (λ b. if b then None else piece_of line) (eqb-suc-zero (length bytes)) ∙ sym (more (byte ∷ bytes) (some_lines byte bytes))
-  where
-    more : (rest : List ℕ) → ((first : List ℕ) × ((others : List (List ℕ)) × (lines_of rest ≡ first ∷ others))) → piece_in true line (lines_of rest) ≡ piece_of line
-    more rest some = ap (piece_in true line) some.1.1
+-- ---- frames
 
-    first_line : (byte : ℕ) (lines : List (List ℕ)) → (first : List ℕ) × ((others : List (List ℕ)) × (onto_first byte lines ≡ first ∷ others))
-    first_line byte [] = (byte ∷ [], ([], refl))
-    first_line byte (line ∷ lines) = (byte ∷ line, (lines, refl))
+-- the frame of one more event
+frames-more : (t : Term) (r : Run) (events : List Event) (frames : List (List ℕ)) (end : Term) (last : Run) (event : Event) (frame : List ℕ)
+    → FramesShow t r events frames end last → Agree (obeying end last event frame) (ran_on last event).screen
+    → FramesShow t r (events ++ event ∷ []) (frames ++ frame ∷ []) (obeying end last event frame) (ran_on last event)
+frames-more t r [] [] end last event frame show agree =
+    let P : Term → Run → Type 0 = λ u q. FramesShow u q (event ∷ []) (frame ∷ []) (obeying end last event frame) (ran_on last event) in
+    subst (λ u. P u r) show.0 (subst (λ q. P end q) show.1 (agree, (refl, refl)))
+frames-more t r [] (first ∷ frames) end last event frame show agree = absurd show
+frames-more t r (first ∷ events) [] end last event frame show agree = absurd show
+frames-more t r (first ∷ events) (one ∷ frames) end last event frame show agree =
+    (show.0, frames-more (obeying t r first one) (ran_on r first) events frames end last event frame show.1 agree)
 
-    some_lines : (byte : ℕ) (bytes : List ℕ) → (first : List ℕ) × ((others : List (List ℕ)) × (lines_of (byte ∷ bytes) ≡ first ∷ others))
-    some_lines byte bytes =
-        let P : Bool → Type 0 = λ b. (first : List ℕ) × ((others : List (List ℕ)) × ((if b then [] ∷ lines_of bytes else onto_first byte (lines_of bytes)) ≡ first ∷ others)) in
-        elim (byte == 10) as P [ true ↦ ([], (lines_of bytes, refl)) | false ↦ first_line byte (lines_of bytes) ]
+concat-more : (frames : List (List ℕ)) (frame : List ℕ) → concat (frames ++ frame ∷ []) ≡ concat frames ++ frame
+concat-more [] frame = append-nil frame
+concat-more (first ∷ frames) frame = ap (λ rest. first ++ rest) (concat-more frames frame) ∙ sym (append_assoc first (concat frames) frame)
 
--- a line that is refused
-pub refused_line : (script rest line behind : List ℕ) (long past : Bool) (p : Play) (number : ℕ) (player : Player)
-    → whole_play script ≡ played long (lines_of rest) p number → lines_of rest ≡ line ∷ lines_of behind → past ≡ (long && (length behind == 0))
-    → PlaysLine false p (if past then None else piece_of line) player → output script ≡ (refusal number, 9)
-refused_line script rest line behind long past p number player so_far cut is plays =
-    let P : Option (List ℕ) → Type 0 = λ piece. PlaysLine false p piece player in
-    let these : PlaysLine false p (piece_in long line (lines_of behind)) player = subst P (piece_before long past line behind is) plays in
-    ap (λ (r : Play × Option ℕ). ended_by r.0 r.1)
-    (so_far ∙ ap (λ ls. played long ls p number) cut ∙ these number (λ q. played long (lines_of behind) q (number + 1)))
+-- ---- an event
 
--- a line that is played
-pub next_line : (script rest line behind : List ℕ) (long past : Bool) (p : Play) (number : ℕ) (player : Player)
-    → whole_play script ≡ played long (lines_of rest) p number → lines_of rest ≡ line ∷ lines_of behind → past ≡ (long && (length behind == 0))
-    → PlaysLine true p (if past then None else piece_of line) player
-    → (q : Play) × IsPlaying player q × (whole_play script ≡ played long (lines_of behind) q (number + 1))
-next_line script rest line behind long past p number player so_far cut is plays =
-    let P : Option (List ℕ) → Type 0 = λ piece. PlaysLine true p piece player in
-    let these : PlaysLine true p (piece_in long line (lines_of behind)) player = subst P (piece_before long past line behind is) plays in
-    (these.0, these.1, so_far ∙ ap (λ ls. played long ls p number) cut ∙ these.2 number (λ q. played long (lines_of behind) q (number + 1)))
+-- an event behind the end changes nothing
+pub held_ended : (player : Player) (p : Play) (event : Event) → Holds player p → has_ended player.session ≡ true → Holds player (done p event)
+held_ended player p event holds ended =
+    let over : has_ended p.run.state ≡ true = ap has_ended (sym holds.state) ∙ ended in
+    let P : Bool → Type 0 = λ b. Holds player (done_by b p event) in subst P (sym over) holds
 
--- the end of the script
-pub last_line : (script rest : List ℕ) (long : Bool) (p : Play) (number : ℕ) → whole_play script ≡ played long (lines_of rest) p number → rest ≡ []
-    → output script ≡ ended_by p None
-last_line script rest long p number so_far end =
-    ap (λ (r : Play × Option ℕ). ended_by r.0 r.1) (so_far ∙ ap (λ bytes. played long (lines_of bytes) p number) end)
+-- what the steps of an event do to a player whose prompt goes on: the terminal takes a resize and then obeys the frame
+pub record Advances (old : Player) (event : Event) (new : Player) : Type 0 where
+  pub sized : Term
+  pub resize : sized ≡ terminal_at old.session.size (size_after event old.session.size) old.screen.terminal
+  pub terminal : IsTerminal sized
+  pub rows : 1 ≤ new.session.size.rows
+  pub state : new.session ≡ next old.session event
+  pub frame : List ℕ
+  pub obeys : Obeys sized frame new.screen.terminal
+  pub keeps : Keeps old.screen.frames frame new.screen.frames
+  pub shows : ShowsState (shown_at old.session.size new.session.size old.shown) new.session frame
+  pub shown : new.shown ≡ screen_after (is_some new.session.outcome) (draw new.session) new.session.size
+  pub answers : new.answers ≡ old.answers ++ accepted new.session.outcome
+  pub reports : new.reports.items ≡ old.reports.items
 
-pub nothing_left : (bytes : List ℕ) → length bytes ≡ 0 → bytes ≡ []
-nothing_left [] none = refl
-nothing_left (byte ∷ bytes) none = absurd (omega arith)
+goes_on : (a b : Bool) → (a || b) ≡ false → b ≡ false
+goes_on true b e = absurd (false≢true (sym e))
+goes_on false b e = e
+
+-- what is on the screen begins the next frame where the prompt goes on
+begins_by : (over : Bool) → over ≡ false → (size : Extent) (drawing : Drawing) (before : OnScreen) (x t : Term) (base : ℕ) (shown : OnScreen)
+    → Begins size before x base → IsTerminal t → length drawing.grid ≤ size.rows → shown ≡ screen_after over drawing size → Agree t (put x base drawing over)
+    → Begins size shown t base
+begins_by true e size drawing before x t base shown begins terminal high kept seen = absurd (false≢true (sym e))
+begins_by false e size drawing before x t base shown begins terminal high kept seen =
+    let P : OnScreen → Type 0 = λ screen. Begins size screen t base in
+    subst P (sym kept) (begins_again size before x t base drawing begins terminal high seen)
+
+-- the frames that are kept are those of one event more
+keeps_more : (before now : Option (List ℕ)) (p : Play) (event : Event) (t sized u : Term) (frame : List ℕ) → KeepsFrames before p t → Keeps before frame now
+    → sized ≡ terminal_at p.run.state.size (next p.run.state event).size t → u ≡ obeyed sized (lossy_chars frame) → Agree u (ran_on p.run event).screen
+    → KeepsFrames now (done_by false p event) u
+keeps_more None now p event t sized u frame kept keeps resize obeys agree =
+    let P : Option (List ℕ) → Type 0 = λ frames. KeepsFrames frames (done_by false p event) u in subst P (sym keeps) tt
+keeps_more (Some bytes) now p event t sized u frame kept keeps resize obeys agree =
+    let P : Option (List ℕ) → Term → Type 0 = λ frames x. KeepsFrames frames (done_by false p event) x in
+    let is : u ≡ obeying t p.run event frame = obeys ∙ ap (λ x. obeyed x (lossy_chars frame)) resize in
+    let seen : Agree (obeying t p.run event frame) (ran_on p.run event).screen = subst (λ x. Agree x (ran_on p.run event).screen) is agree in
+    subst (λ frames. P frames u) (sym keeps) (subst (λ x. P (Some (bytes ++ frame)) x) (sym is) (
+      kept.0 ++ frame ∷ [],
+      frames-more p.first.screen p.first p.events kept.0 t p.run event frame kept.1 seen,
+      ap (λ front. front ++ frame) kept.2 ∙ sym (concat-more kept.0 frame),
+    ))
+
+-- so the player holds the play with that event
+pub held_next : (old new : Player) (p : Play) (event : Event) → Holds old p → has_ended old.session ≡ false → Advances old event new → Holds new (done p event)
+held_next old new p event holds going advances =
+    let r : Run = p.run in
+    let S : State = next r.state event in
+    let on : has_ended r.state ≡ false = ap has_ended (sym holds.state) ∙ going in
+    let is : new.session ≡ S = advances.state ∙ ap (λ s. next s event) holds.state in
+    let over : Bool = is_some S.outcome in
+    let t : Term = old.screen.terminal in
+    let u : Term = terminal_at r.state.size S.size t in
+    let sized : advances.sized ≡ u =
+    advances.resize ∙ ap (λ s. terminal_at s.size (size_after event s.size) t) holds.state ∙ ap (λ e. terminal_at r.state.size e t) (sym (next-size r.state event)) in
+    let base : ℕ = base_at r.state.size S.size r.screen r.base in
+    let rows : 1 ≤ S.size.rows = subst (λ (s : State). 1 ≤ s.size.rows) is advances.rows in
+    let begins : Begins S.size (shown_at r.state.size S.size old.shown) u base =
+    subst (λ b. Begins S.size (shown_at r.state.size S.size old.shown) u b) (base_agree r.state.size S.size t r.screen r.base holds.agrees)
+    (begins_at r.state.size S.size old.shown t r.base rows (holds.begins on) (subst IsTerminal sized advances.terminal)) in
+    let shows : ShowsState (shown_at r.state.size S.size old.shown) S advances.frame =
+    subst (λ s. ShowsState (shown_at r.state.size s.size old.shown) s advances.frame) is
+    (subst (λ (s : State). ShowsState (shown_at s.size new.session.size old.shown) new.session advances.frame) holds.state advances.shows) in
+    let obeyed_u : new.screen.terminal ≡ obeyed u (lossy_chars advances.frame) = advances.obeys.obeyed ∙ ap (λ x. obeyed x (lossy_chars advances.frame)) sized in
+    let seen : Agree new.screen.terminal (put u base (draw S) over) =
+    subst (λ x. Agree x (put u base (draw S) over)) (sym obeyed_u) (shows.shows u base begins) in
+    let agrees : Agree new.screen.terminal (ran_on r event).screen =
+    seen ∙ ap forgotten (put-agree u (terminal_at r.state.size S.size r.screen) base (draw S) over (agree_at r.state.size S.size t r.screen holds.agrees)) in
+    let kept : new.shown ≡ screen_after over (draw S) S.size = advances.shown ∙ ap (λ s. screen_after (is_some s.outcome) (draw s) s.size) is in
+    let P : Bool → Type 0 = λ b. Holds new (done_by b p event) in
+    subst P (sym on) (record {
+      state = is;
+      agrees = agrees;
+      begins = λ still. begins_by over (goes_on S.failed over still) S.size (draw S) (shown_at r.state.size S.size old.shown) u new.screen.terminal base new.shown begins
+          advances.obeys.terminal (draw-high S) kept seen;
+      drawn = drawn_behind S new.shown kept;
+      answers = advances.answers ∙ ap (λ lines. lines ++ accepted new.session.outcome) holds.answers ∙ ap (λ s. p.answers ++ accepted s.outcome) is;
+      reports = advances.reports ∙ holds.reports;
+      frames = keeps_more old.screen.frames new.screen.frames p event t advances.sized new.screen.terminal advances.frame holds.frames advances.keeps
+          sized advances.obeys.obeyed agrees;
+    })

@@ -1,13 +1,20 @@
--- How a terminal that shows one drawing after another keeps up with the screens of a run whose base line is the first line.
-use Rattle.std.proofs.Common.{◌≡◌, ℕ, ◌+◌, ◌-◌, ◌≤◌, Bool, true, false, max, length, refl, ap, sym, ◌∙◌, arith}
+-- How a terminal that shows one drawing after another keeps up with the screens of a run.
+use Rattle.std.proofs.Common.{◌≡◌, ℕ, ◌+◌, ◌-◌, ◌≤◌, nat_eq, Bool, true, false, List, ◌++◌, max, length, take, refl, ap, sym, ◌∙◌, subst, arith, append_assoc, length-take, if◌then◌else◌}
+use Rattle.std.proofs.lemmas.Bool.{eqb-true}
+use Rattle.std.proofs.lemmas.List.{take-append-le, take_all}
+use Rattle.cell_grid.specs.Grid.{blank_rows}
+use Rattle.cell_grid.specs.declared.cell.Cell.{Cell}
+use Rattle.session_core.proofs.TypedLemmas.{both}
 use Rattle.cell_grid.specs.declared.drawing.Drawing.{Drawing}
-use Rattle.term_model.specs.Obeying.{forgotten}
+use Rattle.term_model.specs.Obeying.{forgotten, line_of}
+use Rattle.term_model.specs.Resizing.{resized}
 use Rattle.term_model.specs.Term.{Term, IsTerminal}
 use Rattle.diff_render.specs.Canvas.{top_for}
-use Rattle.diff_render.specs.Frames.{put, put_rows, Agree, Begins, IsBaseOf}
+use Rattle.diff_render.specs.Frames.{put, put_rows, Agree, Begins, IsBaseOf, WasDrawnAt, forgetting}
 use Rattle.diff_render.specs.declared.shown.OnScreen.{OnScreen}
 use Rattle.diff_render.specs.declared.shown.OnScreen.TheVariants.{Nothing, Drawn, Resized}
 use Rattle.cell_grid.specs.Size.{Extent}
+use Rattle.prompt_run.specs.Run.{base_at, same_size, shown_at, terminal_at}
 
 -- what a terminal remembers of the place printed last makes no difference to what it shows of a drawing
 put-forgotten : (t : Term) (base : ℕ) (drawing : Drawing) (done : Bool) → put (forgotten t) base drawing done ≡ put t base drawing done
@@ -19,19 +26,44 @@ pub put-agree : (s t : Term) (base : ℕ) (drawing : Drawing) (done : Bool) → 
 put-agree s t base drawing done agree =
     sym (put-forgotten s base drawing done) ∙ ap (λ x. put x base drawing done) agree ∙ put-forgotten t base drawing done
 
--- a drawing of the first lines that is shown again is shown as before
-put-again : (t : Term) (drawing : Drawing) → put (put t 0 drawing false) 0 drawing false ≡ put t 0 drawing false
-put-again t drawing =
-    let top = top_for t 0 (length drawing.grid) in
-    let same : max top (0 + length drawing.grid - t.rows) ≡ top = omega arith in
-    ap (λ n. put_rows t 0 drawing.grid n (0 + drawing.row) drawing.col false) same
+-- a base line is not above the window
+pub top_low : (shown : OnScreen) (t : Term) (base : ℕ) → IsBaseOf shown t base → t.top ≤ base
+top_low Nothing t base is = omega (arith, is)
+top_low (Drawn drawing size) t base is = is.0
+top_low (Resized row) t base is = omega (arith, is)
 
--- a terminal that shows a drawing of the first lines begins the next frame there
-pub begins_again : (size : Extent) (shown : OnScreen) (t new : Term) (drawing : Drawing) → Begins size shown t 0 → IsTerminal new
-    → length drawing.grid ≤ size.rows → Agree new (put t 0 drawing false) → Begins size (Drawn drawing size) new 0
-begins_again size shown t new drawing begins terminal high agree =
-    let low : t.top ≤ 0 = by shown begins.base_line in
-    let top : new.top ≡ top_for t 0 (length drawing.grid) = ap (λ x. x.top) agree in
+-- nor below the cursor's line
+pub base_low : (shown : OnScreen) (t : Term) (base : ℕ) → IsBaseOf shown t base → base ≤ line_of t
+base_low Nothing t base is = omega (arith, is)
+base_low (Drawn drawing size) t base is = omega (arith, ap (λ x. x.top) is.1, ap (λ x. x.row) is.1)
+base_low (Resized row) t base is = omega (arith, is)
+
+-- so the lines before it are there
+base_within : (size : Extent) (shown : OnScreen) (t : Term) (base : ℕ) → Begins size shown t base → base ≤ length t.lines
+base_within size shown t base begins = omega (arith, base_low shown t base begins.base_line, begins.terminal.count, begins.terminal.row)
+
+take_front : {A : Type 0} → (base : ℕ) (lines rest : List A) → base ≤ length lines → take base (take base lines ++ rest) ≡ take base lines
+take_front base lines rest within =
+    let long : length (take base lines) ≡ base = omega (arith, length-take base lines) in
+    take-append-le base (take base lines) rest (omega (arith, long)) ∙ take_all base (take base lines) (omega (arith, long))
+
+-- a drawing that is shown again from the same line on is shown as before
+put-again : (t : Term) (base : ℕ) (drawing : Drawing) → base ≤ length t.lines → put (put t base drawing false) base drawing false ≡ put t base drawing false
+put-again t base drawing within =
+    let top = top_for t base (length drawing.grid) in
+    let same : max top (base + length drawing.grid - t.rows) ≡ top = omega arith in
+    let behind : List (List Cell) = blank_rows (top + t.rows - base - length drawing.grid) t.cols in
+    let front : take base (take base t.lines ++ drawing.grid ++ behind) ≡ take base t.lines =
+    ap (take base) (append_assoc (take base t.lines) drawing.grid behind) ∙ take_front base t.lines (drawing.grid ++ behind) within in
+    ap (λ n. put_rows (put t base drawing false) base drawing.grid n (base + drawing.row) drawing.col false) same
+    ∙ ap (λ lines. record (put t base drawing false) { lines = lines ++ drawing.grid ++ behind }) front
+
+-- a terminal that shows a drawing from a line on begins the next frame there
+pub begins_again : (size : Extent) (shown : OnScreen) (t new : Term) (base : ℕ) (drawing : Drawing) → Begins size shown t base → IsTerminal new
+    → length drawing.grid ≤ size.rows → Agree new (put t base drawing false) → Begins size (Drawn drawing size) new base
+begins_again size shown t new base drawing begins terminal high agree =
+    let low : t.top ≤ base = top_low shown t base begins.base_line in
+    let top : new.top ≡ top_for t base (length drawing.grid) = ap (λ x. x.top) agree in
     let rows : new.rows ≡ t.rows = ap (λ x. x.rows) agree in
     let cols : new.cols ≡ t.cols = ap (λ x. x.cols) agree in
     record {
@@ -40,11 +72,57 @@ begins_again size shown t new drawing begins terminal high agree =
       wide = cols ∙ begins.wide;
       base_line = (
         omega (arith, top, low, high, begins.tall),
-        agree ∙ ap forgotten (sym (put-again t drawing)) ∙ ap forgotten (sym (put-agree new (put t 0 drawing false) 0 drawing false agree)),
+        agree ∙ ap forgotten (sym (put-again t base drawing (base_within size shown t base begins)))
+            ∙ ap forgotten (sym (put-agree new (put t base drawing false) base drawing false agree)),
       );
     }
+
+-- ---- resizes
+
+-- a resize keeps the cursor's line
+line_kept : (t : Term) (now : Extent) → 1 ≤ now.rows → line_of (resized t now) ≡ line_of t
+line_kept t now some = omega arith
+
+base_resized : (shown : OnScreen) (t : Term) (base : ℕ) (now : Extent) → 1 ≤ now.rows → IsBaseOf shown t base
+    → IsBaseOf (forgetting shown) (resized t now) (max base (resized t now).top)
+base_resized Nothing t base now some is = omega (arith, is)
+base_resized (Resized row) t base now some is = omega (arith, is)
+base_resized (Drawn drawing size) t base now some is = omega (arith, is.0, ap (λ x. x.top) is.1, ap (λ x. x.row) is.1)
+
+same_extent : (before now : Extent) → same_size before now ≡ true → before ≡ now
+same_extent before now same =
+    let parts : (nat_eq before.rows now.rows ≡ true) × (nat_eq before.cols now.cols ≡ true) = both (nat_eq before.rows now.rows) (nat_eq before.cols now.cols) same in
+    ap (λ n. record { rows = n; cols = before.cols }) (eqb-true before.rows now.rows parts.0) ∙ ap (λ n. record { rows = now.rows; cols = n }) (eqb-true before.cols now.cols parts.1)
+
+-- where the size changes the next frame begins with a forgotten one, and else as before
+pub begins_at : (before now : Extent) (shown : OnScreen) (t : Term) (base : ℕ) → 1 ≤ now.rows → Begins before shown t base → IsTerminal (terminal_at before now t)
+    → Begins now (shown_at before now shown) (terminal_at before now t) (base_at before now t base)
+begins_at before now shown t base some begins terminal = by (same_size before now) refl terminal
   where
-    by : (shown : OnScreen) → IsBaseOf shown t 0 → t.top ≤ 0
-    by Nothing base = omega (arith, base)
-    by (Drawn drawing size) base = base.0
-    by (Resized row) base = omega (arith, base)
+    by : (b : Bool) → same_size before now ≡ b → IsTerminal (if b then t else resized t now)
+        → Begins now (if b then shown else forgetting shown) (if b then t else resized t now) (if b then base else max base (resized t now).top)
+    by true same kept = subst (λ e. Begins e shown t base) (same_extent before now same) begins
+    by false other kept = record { terminal = kept; tall = refl; wide = refl; base_line = base_resized shown t base now some begins.base_line }
+
+-- terminals that agree, agree at another size, and have the same base line there
+pub agree_at : (before now : Extent) (s t : Term) → Agree s t → Agree (terminal_at before now s) (terminal_at before now t)
+agree_at before now s t agree = elim (same_size before now) as (λ b. Agree (if b then s else resized s now) (if b then t else resized t now)) [
+  | true ↦ agree
+  | false ↦ ap (λ x. forgotten (resized x now)) agree
+]
+
+pub base_agree : (before now : Extent) (s t : Term) (base : ℕ) → Agree s t → base_at before now s base ≡ base_at before now t base
+base_agree before now s t base agree = ap (λ x. base_at before now x base) agree
+
+-- what was drawn at a size before is drawn at this one, or its size is forgotten
+pub drawn_at : (before now : Extent) (shown : OnScreen) → WasDrawnAt before shown → WasDrawnAt now (shown_at before now shown)
+drawn_at before now shown was = by (same_size before now) refl
+  where
+    by : (b : Bool) → same_size before now ≡ b → WasDrawnAt now (if b then shown else forgetting shown)
+    by true same = subst (λ e. WasDrawnAt e shown) (same_extent before now same) was
+    by false other = forgot shown
+      where
+        forgot : (shown : OnScreen) → WasDrawnAt now (forgetting shown)
+        forgot Nothing = tt
+        forgot (Drawn drawing size) = tt
+        forgot (Resized row) = tt

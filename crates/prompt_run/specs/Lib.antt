@@ -1,9 +1,10 @@
-pub mod Lines
+pub mod FramesShown
 pub mod Play
 pub mod Playing
 pub mod Replay
 pub mod Report
+pub mod Run
+pub mod Script
 pub mod Source
-pub mod Spelling
 pub mod Terminals
 pub mod Turn

@@ -1,27 +1,28 @@
--- What playing a script does: the state of the prompt, the screen that shows it, and the lines that it accepted.
-use Rattle.std.specs.Prelude.{ℕ, ◌+◌, Bool, true, false, nat_le, nat_lt, List, [], length, ◌∷◌, ◌++◌, flat_map, count_by, Option, Some, None, is_some, if◌then◌else◌, codes, decimal, encode_utf8_all}
+-- What playing a script does: the run of its events, the lines that it accepts, and the reports that it asks for.
+use Rattle.std.specs.Prelude.{ℕ, ◌+◌, Bool, true, false, ◌||◌, List, [], ◌∷◌, ◌++◌, Option, Some, None, unwrap_or, if◌then◌else◌}
+use Rattle.std.specs.List.{list_all}
 use Rattle.cell_grid.specs.Size.{Extent}
-use Rattle.diff_render.specs.Frames.{put}
 use Rattle.ports.specs.declared.events.Event.{Event}
-use Rattle.ports.specs.declared.events.Event.TheVariants.{Start, Piece, End}
+use Rattle.ports.specs.declared.events.Event.TheVariants as event
+use Rattle.prompt_settings.specs.Settings.{Settings}
+use Rattle.script_lines.specs.declared.script_line.ScriptLine.{ScriptLine}
+use Rattle.script_lines.specs.declared.script_line.ScriptLine.TheVariants as line
+use Rattle.script_lines.specs.ScriptLine.{script_line}
 use Rattle.session_core.specs.declared.outcomes.Outcome.{Outcome}
 use Rattle.session_core.specs.declared.outcomes.Outcome.TheVariants.{Accepted, EndOfFile, Interrupted}
-use Rattle.session_core.specs.Draw.{draw}
-use Rattle.session_core.specs.Keys.{is_printable}
+use Rattle.session_core.specs.Keys.{is_printable, is_erase, is_accept}
 use Rattle.session_core.specs.Next.{next}
-use Rattle.session_core.specs.State.{State, opened, has_ended}
-use Rattle.term_model.specs.Term.{Term, start_of}
-use Rattle.prompt_run.specs.Lines.{lines_of, piece_in}
-use Rattle.prompt_run.specs.declared.readers.TheConstants.{MAX_SCRIPT}
+use Rattle.session_core.specs.State.{has_ended}
 use Rattle.prompt_run.specs.Report.{report_of}
-use Rattle.prompt_run.specs.Spelling.{spelling}
+use Rattle.prompt_run.specs.Run.{Run, ran_on, waiting_run}
 
--- a prompt in the middle of a script: its state, the screen, the accepted lines, and how many printable bytes the lines so far had
+-- the run before its first event and now, the accepted lines, the reports so far, and the events so far
 pub record Play : Type 0 where
-  pub state : State
-  pub screen : Term
+  pub first : Run
+  pub run : Run
   pub answers : List (List ℕ)
-  pub printed : ℕ
+  pub reports : List ℕ
+  pub events : List Event
 
 -- the line that an outcome accepts, if it does
 abbrev pub accepted : Option Outcome → List (List ℕ)
@@ -30,84 +31,68 @@ accepted (Some (Accepted text)) = text ∷ []
 accepted (Some EndOfFile) = []
 accepted (Some Interrupted) = []
 
--- the screen shows the drawing of the new state from its first line on
-abbrev pub shown_after : Play → State → Play
-shown_after p s = record {
-  state = s;
-  screen = put p.screen 0 (draw s) (is_some s.outcome);
-  answers = p.answers ++ accepted s.outcome;
-  printed = p.printed;
-}
-
 -- an event behind the end of the prompt does nothing
 abbrev pub done_by : Bool → Play → Event → Play
 done_by true p event = p
-done_by false p event = shown_after p (next p.state event)
+done_by false p event = record p {
+  run = ran_on p.run event;
+  answers = p.answers ++ accepted (next p.run.state event).outcome;
+  events = p.events ++ event ∷ [];
+}
 
 abbrev pub done : Play → Event → Play
-done p event = done_by (has_ended p.state) p event
+done p event = done_by (has_ended p.run.state) p event
 
--- the terminal of a replay
-abbrev pub replay_size : Extent
-replay_size = record { rows = 24; cols = 80 }
+-- a report of the screen
+abbrev pub reporting : Play → Play
+reporting p = record p { reports = p.reports ++ report_of p.run.screen }
 
--- before its first event a prompt has a blank terminal
-abbrev pub waiting : Extent → Play
-waiting size = record { state = opened size 0; screen = start_of size; answers = []; printed = 0 }
+-- the terminal of a script that sets no size
+abbrev pub usual_size : Extent
+usual_size = record { rows = 24; cols = 80 }
+
+abbrev pub terminal_size : Settings → Extent
+terminal_size settings = unwrap_or settings.size usual_size
+
+-- before the first event
+abbrev pub waiting : Settings → Play
+waiting settings = record {
+  first = waiting_run settings (terminal_size settings);
+  run = waiting_run settings (terminal_size settings);
+  answers = [];
+  reports = [];
+  events = [];
+}
 
 -- the prompt begins
-abbrev pub begun : Play
-begun = done (waiting replay_size) Start
+abbrev pub begun : Settings → Play
+begun settings = done (waiting settings) event.Start
 
--- how many of the bytes are printable
-abbrev pub printables : List ℕ → ℕ
-printables bytes = count_by is_printable bytes
+-- a key that is known: printable ASCII, the key that erases, or the key that accepts
+abbrev pub is_key : ℕ → Bool
+is_key byte = is_printable byte || is_erase byte || is_accept byte
 
--- a piece of a script
-abbrev pub taken : Play → List ℕ → Play
-taken p bytes = done (record p { printed = p.printed + printables bytes }) (Piece bytes)
+-- what a line says, before these lines: the last line of a script that is too long says nothing, since it holds the byte behind the
+-- most bytes of a script
+abbrev pub line_in : Bool → List ℕ → List (List ℕ) → Option ScriptLine
+line_in true text [] = None
+line_in true text (next ∷ rest) = script_line text
+line_in false text lines = script_line text
 
--- a line of the script, where `rest` plays those behind it: one that is no piece, or passes what fits one row, is refused
-abbrev pub went : Play → ℕ → Option (List ℕ) → (Play → Play × Option ℕ) → Play × Option ℕ
+-- a play, and the number of the line that was refused, if one was
+abbrev pub Played : Type 0
+Played = Play × Option ℕ
+
+-- a line of the second part, where `rest` plays those behind it: one that sets, says nothing or has an unknown key is refused
+abbrev pub went : Play → ℕ → Option ScriptLine → (Play → Played) → Played
 went p number None rest = (p, Some number)
-went p number (Some bytes) rest = if nat_le (p.printed + printables bytes) 77 then rest (taken p bytes) else (p, Some number)
+went p number (Some (line.Set name value)) rest = (p, Some number)
+went p number (Some (line.Piece bytes)) rest = if list_all is_key bytes then rest (done p (event.Piece bytes)) else (p, Some number)
+went p number (Some (line.Resize size)) rest = rest (done p (event.Resize size))
+went p number (Some line.Show) rest = rest (reporting p)
+went p number (Some line.End) rest = rest (done p event.End)
 
--- the lines from this number on, of a script that is too long or not: the play behind them, and the number of the first that is refused
-abbrev pub played : Bool → List (List ℕ) → Play → ℕ → Play × Option ℕ
+-- the lines from this number on, of a script that is too long or not
+abbrev pub played : Bool → List (List ℕ) → Play → ℕ → Played
 played long [] p number = (p, None)
-played long (line ∷ lines) p number = went p number (piece_in long line lines) (λ q. played long lines q (number + 1))
-
--- the whole script
-abbrev pub whole_play : List ℕ → Play × Option ℕ
-whole_play script = played (nat_lt MAX_SCRIPT (length script)) (lines_of script) begun 1
-
--- the status of a prompt that has ended
-abbrev pub status_of : Option Outcome → ℕ
-status_of None = 1
-status_of (Some (Accepted text)) = 0
-status_of (Some EndOfFile) = 1
-status_of (Some Interrupted) = 130
-
--- `answer `, the line as it is spelled, and a line feed
-abbrev pub answer_row : List ℕ → List ℕ
-answer_row text = codes "answer " ++ spelling (encode_utf8_all text) ++ codes "\n"
-
-abbrev pub status_row : ℕ → List ℕ
-status_row status = codes "status " ++ decimal status ++ codes "\n"
-
--- what is printed behind a play: the last report, the accepted lines and the status
-abbrev pub closing : Play → List ℕ
-closing p = report_of p.screen ++ flat_map answer_row p.answers ++ status_row (status_of p.state.outcome)
-
--- what is printed where the line of this number is refused
-abbrev pub refusal : ℕ → List ℕ
-refusal number = codes "refused " ++ decimal number ++ codes "\n" ++ status_row 9
-
--- what is printed of a script, and its status, by the number of the line that was refused, if one was
-abbrev pub ended_by : Play → Option ℕ → List ℕ × ℕ
-ended_by p None = (closing (done p End), status_of (done p End).state.outcome)
-ended_by p (Some number) = (refusal number, 9)
-
--- what a script prints, and its status
-abbrev pub output : List ℕ → List ℕ × ℕ
-output script = ended_by (whole_play script).0 (whole_play script).1
+played long (text ∷ texts) p number = went p number (line_in long text texts) (λ q. played long texts q (number + 1))

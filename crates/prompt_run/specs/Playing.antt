@@ -1,34 +1,50 @@
 -- How a player stands for a play.
-use Rattle.std.specs.Prelude.{◌≡◌, ℕ, ◌≤◌, Bool, true, false, List, Option, Some}
+use Rattle.std.specs.Prelude.{◌≡◌, ℕ, Bool, true, false, List, Option, Some, None}
+use Rattle.std.specs.List.{concat}
+use Rattle.prompt_settings.specs.Settings.{Settings}
 use Rattle.diff_render.specs.Frames.{Agree, Begins, WasDrawnAt}
+use Rattle.script_lines.specs.declared.script_line.ScriptLine.{ScriptLine}
 use Rattle.session_core.specs.State.{has_ended}
-use Rattle.session_core.specs.Typed.{IsTyped}
-use Rattle.prompt_run.specs.Play.{Play, replay_size, went}
+use Rattle.term_model.specs.Term.{Term}
+use Rattle.prompt_run.specs.FramesShown.{FramesShow}
+use Rattle.prompt_run.specs.Play.{Play, Played, played, went}
+use Rattle.prompt_run.specs.Script.{ended_by, final_by, settings_by}
 use Rattle.prompt_run.specs.declared.players.Player.{Player}
-use Rattle.prompt_run.specs.declared.players.TheConstants.{MAX_PRINTED}
+
+-- the frames that were kept, joined, are those of the play's events: the terminal that obeyed them is this one
+abbrev pub KeepsFrames : Option (List ℕ) → Play → Term → Type 0
+KeepsFrames None p t = Unit {0}
+KeepsFrames (Some bytes) p t =
+    (frames : List (List ℕ)) × FramesShow p.first.screen p.first p.events frames t p.run × (bytes ≡ concat frames)
 
 -- the player has what the play has: its terminal agrees with the screen, and while the prompt goes on the next frame begins
--- on the first line
+-- on the base line
 pub record Holds (player : Player) (p : Play) : Type 0 where
-  pub state : player.session ≡ p.state
-  pub size : p.state.size ≡ replay_size
-  pub agrees : Agree player.screen.terminal p.screen
-  pub begins : has_ended p.state ≡ false → Begins replay_size player.shown player.screen.terminal 0
-  pub drawn : WasDrawnAt replay_size player.shown
+  pub state : player.session ≡ p.run.state
+  pub agrees : Agree player.screen.terminal p.run.screen
+  pub begins : has_ended p.run.state ≡ false → Begins p.run.state.size player.shown player.screen.terminal p.run.base
+  pub drawn : WasDrawnAt p.run.state.size player.shown
   pub answers : player.answers ≡ p.answers
-  pub printed : player.printed ≡ p.printed
+  pub reports : player.reports.items ≡ p.reports
+  pub frames : KeepsFrames player.screen.frames p player.screen.terminal
 
--- the text of a play was typed, and its line fits one row of the terminal
-pub record IsShort (p : Play) : Type 0 where
-  pub typed : IsTyped p.printed p.state.doc
-  pub few : p.printed ≤ MAX_PRINTED
+-- a line was played: the player goes on from the play behind it, or it is where the script is refused
+abbrev pub PlaysLine : Bool → Play → Option ScriptLine → Player → Type 0
+PlaysLine true p said player =
+    (q : Play) × Holds player q × ((number : ℕ) (rest : Play → Played) → went p number said rest ≡ rest q)
+PlaysLine false p said player = Holds player p × ((number : ℕ) (rest : Play → Played) → went p number said rest ≡ (p, Some number))
 
-pub record IsPlaying (player : Player) (p : Play) : Type 0 where
-  pub holds : Holds player p
-  pub short : IsShort p
+-- a line set something, or the first part of the script ends before it
+abbrev pub SetsLine : Bool → Settings → Option ScriptLine → Settings → Type 0
+SetsLine true old said new = settings_by old said ≡ Some new
+SetsLine false old said new = (settings_by old said ≡ None) × (new ≡ old)
 
--- a line was played: it fits and the player goes on from the play behind it, or it is where the script is refused
-abbrev pub PlaysLine : Bool → Play → Option (List ℕ) → Player → Type 0
-PlaysLine true p piece player =
-    (q : Play) × IsPlaying player q × ((number : ℕ) (rest : Play → Play × Option ℕ) → went p number piece rest ≡ rest q)
-PlaysLine false p piece player = (number : ℕ) (rest : Play → Play × Option ℕ) → went p number piece rest ≡ (p, Some number)
+-- the lines of a text were played to their end, or to one that is refused
+abbrev pub PlaysLines : Bool → List (List ℕ) → ℕ → Play → Option ℕ → Player → Type 0
+PlaysLines long texts number p refused player = (q : Play) × Holds player q × (played long texts p number ≡ (q, refused))
+
+-- a play was ended: its last report was put behind the others, or the refusal, and the frames are those of all its events
+pub record Finishes (p : Play) (refused : Option ℕ) (player : Player) (number : ℕ) : Type 0 where
+  pub reports : player.reports.items ≡ (ended_by p refused).0
+  pub status : number ≡ (ended_by p refused).1
+  pub frames : KeepsFrames player.screen.frames (final_by p refused) player.screen.terminal

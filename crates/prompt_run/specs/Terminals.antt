@@ -1,5 +1,5 @@
--- What a contract sees of a terminal that obeyed a frame.
-use Rattle.std.specs.Prelude.{◌≡◌, ℕ, List}
+-- What a contract sees of a terminal that obeyed a frame, and of the frames that are kept.
+use Rattle.std.specs.Prelude.{◌≡◌, ℕ, ◌++◌, List, Option, Some, None}
 use Rattle.bstr.specs.Utf8.{lossy_chars}
 use Rattle.term_model.specs.Obeying.{obeyed}
 use Rattle.term_model.specs.Term.{Term, IsTerminal}
@@ -8,3 +8,8 @@ use Rattle.term_model.specs.Term.{Term, IsTerminal}
 pub record Obeys (old : Term) (frame : List ℕ) (new : Term) : Type 0 where
   pub obeyed : new ≡ obeyed old (lossy_chars frame)
   pub terminal : IsTerminal new
+
+-- the bytes of the frame stand behind those of the frames before, where they are kept
+abbrev pub Keeps : Option (List ℕ) → List ℕ → Option (List ℕ) → Type 0
+Keeps None frame new = new ≡ None
+Keeps (Some bytes) frame new = new ≡ Some (bytes ++ frame)

@@ -1,5 +1,6 @@
 -- What a contract sees of a turn.
 use Rattle.std.specs.Prelude.{◌≡◌, ℕ, ◌+◌, ◌*◌, ◌≤◌, false, List, [], length, Option, Some, None, is_some}
+use Rattle.cell_grid.specs.Size.{Extent}
 use Rattle.diff_render.specs.Frames.{Shows, TouchesChanges, IsOnScreen, changed_places, height_of}
 use Rattle.diff_render.specs.declared.shown.OnScreen.{OnScreen}
 use Rattle.session_core.specs.declared.outcomes.Outcome.{Outcome}
@@ -8,6 +9,7 @@ use Rattle.session_core.specs.Draw.{draw}
 use Rattle.session_core.specs.State.{State, HasFailed, failed}
 use Rattle.session_core.specs.Next.{next}
 use Rattle.ports.specs.declared.events.Event.{Event}
+use Rattle.prompt_run.specs.Run.{shown_at}
 use Rattle.prompt_run.specs.declared.turns.Turned.{Turned}
 use Rattle.prompt_run.specs.declared.turns.Turned.TheVariants as turned
 use Rattle.prompt_run.specs.declared.turns.TurnFault.{TurnFault}
@@ -34,6 +36,6 @@ pub record ShowsState (shown : OnScreen) (s : State) (frame : List ℕ) : Type 0
   pub short : length frame ≤ 100 + 128 * changed_places s.size shown (draw s) + 16 * height_of shown (draw s)
   pub unchanged : IsOnScreen shown (draw s) → is_some s.outcome ≡ false → frame ≡ []
 
--- the screen took one frame, which turns what was shown into the drawing of the state
-abbrev pub TakesState : {S : Type 0} → (S → List ℕ → S → Type 0) → S → S → OnScreen → State → Type 0
-TakesState took old new shown s = (frame : List ℕ) × took old frame new × ShowsState shown s frame
+-- the screen took one frame, which turns what was shown, at this size before, into the drawing of the state
+abbrev pub TakesState : {S : Type 0} → (S → List ℕ → S → Type 0) → S → S → Extent → OnScreen → State → Type 0
+TakesState took old new before shown s = (frame : List ℕ) × took old frame new × ShowsState (shown_at before s.size shown) s frame

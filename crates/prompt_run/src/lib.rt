@@ -1,13 +1,11 @@
 //! Runs of prompts: from events to frames on a screen and accepted lines.
 #![tactic(auto)]
 
-mod lines;
 mod players;
 mod readers;
 mod replays;
 mod reports;
 mod scripts;
-mod spelling;
 mod statuses;
 mod terminals;
 mod turns;

@@ -1,18 +1,20 @@
-// Playing a script over a model of a terminal.
-ghost use Rattle.std.specs.Prelude.{◌≡◌, ◌+◌, ◌≤◌, ◌++◌, ℕ, true, nat_le, count_by, IfOk, OnOk, List, is_some};
-ghost use Rattle.ports.specs.declared.events.Event.TheVariants.{Piece, End};
+// Playing the events of a script over a model of a terminal.
+ghost use Rattle.std.specs.Prelude.{◌≡◌, ◌≤◌, ◌++◌, ℕ, IfOk, OnOk, List, is_some};
 ghost use Rattle.diff_render.specs.Frames.{WasDrawnAt, screen_after};
-ghost use Rattle.session_core.specs.Draw.{IsOneRow, draw};
-ghost use Rattle.session_core.specs.Keys.{is_printable};
+ghost use Rattle.session_core.specs.Draw.{draw};
 ghost use Rattle.session_core.specs.Next.{next};
-ghost use Rattle.prompt_run.specs.Play.{Play, accepted, begun, done, printables, replay_size, status_of, taken, waiting};
-ghost use Rattle.prompt_run.specs.Playing.{Holds, IsPlaying};
-ghost use Rattle.prompt_run.specs.Terminals.{Obeys};
+ghost use Rattle.prompt_run.specs.Play.{Play, accepted, begun, done, reporting, terminal_size, waiting};
+ghost use Rattle.prompt_run.specs.Playing.{Holds};
+ghost use Rattle.prompt_run.specs.Run.{shown_at, size_after, terminal_at};
+ghost use Rattle.prompt_run.specs.Script.{status_of};
+ghost use Rattle.prompt_run.specs.Terminals.{Keeps, Obeys};
+ghost use Rattle.term_model.specs.Term.{IsTerminal};
 ghost use Rattle.prompt_run.specs.Turn.{ShowsState};
 
+use crate::reports::write_screen;
 use crate::statuses::{ACCEPTED, END_OF_FILE, INTERRUPTED, Status};
 use crate::terminals::TerminalScreen;
-use crate::turns::turn;
+use crate::turns::{is_same_size, turn};
 use cell_grid::Size;
 use diff_render::Shown;
 use session_core::{Config, Event, Outcome, Session};
@@ -20,11 +22,8 @@ use std::alloc::{AllocError, Global};
 use term_model::Terminal;
 use text_doc::{Bytes, Lines, NoMemory};
 
-/// The most printable bytes of a script: more do not fit a row behind the message.
-pub const MAX_PRINTED: usize = 77;
-
-/// A prompt in the middle of a script: its session, the terminal that shows it, the lines that it accepted, and how many
-/// printable bytes the lines so far had.
+/// A prompt in the middle of a script: its session, the terminal that shows it, the lines that it accepted, and the reports so
+/// far.
 #[derive(Drop)]
 pub struct Player {
     pub alloc: Global,
@@ -32,53 +31,30 @@ pub struct Player {
     pub shown: Shown,
     pub screen: TerminalScreen,
     pub answers: Lines,
-    pub printed: usize,
+    pub reports: Vec<u8>,
 }
 
 impl Player {
-    /// A prompt that has begun on a blank terminal.
-    pub fn begin(alloc: Global, size: Size) -> Result<Player, NoMemory>
-        requires size { size ≡ replay_size }
-        ensures begun { IfOk result (λ player. IsPlaying player begun) }
+    /// A prompt of these settings that has begun on a blank terminal. With `frames` the bytes of its frames are kept.
+    pub fn begin(alloc: Global, config: Config, frames: bool) -> Result<Player, NoMemory>
+        ensures begun { IfOk result (λ player. Holds player (begun config)) }
+        ensures frames { IfOk result (λ player. is_some player.screen.frames ≡ frames) }
     {
-        let mut player = waiting_player(alloc, size)?;
+        let mut player = waiting_player(alloc, config, frames)?;
         player.take(Event::Start)?;
         Ok(player)
     }
 
-    /// Does a piece where it and the lines before fit one row, and answers whether they do.
-    pub fn take_piece(&mut self, bytes: Bytes) -> Result<bool, NoMemory>
-        requires playing { (p : Play) × IsPlaying self.old p }
-        ensures fits { IfOk result (λ fits. (p : Play) → IsPlaying self.old p → (fits ≡ nat_le (p.printed + printables bytes) MAX_PRINTED)) }
-        ensures taken { IfOk result (λ fits. (p : Play) → IsPlaying self.old p → fits ≡ true → IsPlaying self.new (taken p bytes)) }
-    {
-        let count = count_printable(bytes.as_slice());
-        if count > MAX_PRINTED - self.printed {
-            return Ok(false);
-        }
-        self.printed += count;
-        self.take(Event::Piece(bytes))?;
-        Ok(true)
-    }
-
-    /// The end of the input.
-    pub fn finish(&mut self) -> Result<(), NoMemory>
-        requires playing { (p : Play) × IsPlaying self.old p }
-        ensures done { OnOk result ((p : Play) → IsPlaying self.old p → IsPlaying self.new (done p End)) }
-    {
-        self.take(Event::End)?;
-        Ok(())
-    }
-
-    /// Does one event; behind the end of the prompt it does nothing.
-    fn take(&mut self, event: Event) -> Result<(), NoMemory>
-        requires drawn { WasDrawnAt self.old.session.size self.old.shown }
-        requires one_row { IsOneRow (next self.old.session event) }
+    /// Does one event; behind the end of the prompt it does nothing. The terminal takes a resize with the session.
+    pub fn take(&mut self, event: Event) -> Result<(), NoMemory>
+        requires playing { (p : Play) × Holds self.old p }
         ensures done { OnOk result ((p : Play) → Holds self.old p → Holds self.new (done p event)) }
+        ensures frames { OnOk result (is_some self.new.screen.frames ≡ is_some self.old.screen.frames) }
     {
         if self.session.ended() {
             return Ok(());
         }
+        resize_with(&mut self.screen.terminal, self.session.size(), &event)?;
         advance(
             self.alloc,
             &mut self.session,
@@ -90,7 +66,16 @@ impl Player {
         Ok(())
     }
 
-    /// How the prompt ended; one that still waits is at the end of its input.
+    /// Puts a report of the terminal's screen behind the reports so far.
+    pub fn report(&mut self) -> Result<(), NoMemory>
+        ensures reporting { OnOk result ((p : Play) → Holds self.old p → Holds self.new (reporting p)) }
+        ensures frames { self.new.screen.frames ≡ self.old.screen.frames }
+    {
+        write_screen(&mut self.reports, &self.screen.terminal)?;
+        Ok(())
+    }
+
+    /// The status of the prompt, as it would be were this its end.
     pub fn status(&self) -> Status
         ensures status { result ≡ status_of self.now.session.outcome }
     {
@@ -102,22 +87,62 @@ impl Player {
     }
 }
 
-/// A prompt that has not begun, on a blank terminal of this size.
-fn waiting_player(alloc: Global, size: Size) -> Result<Player, NoMemory>
-    requires size { size ≡ replay_size }
-    ensures waiting { IfOk result (λ player. Holds player (waiting replay_size)) }
+/// A prompt that has not begun, on a blank terminal.
+fn waiting_player(alloc: Global, config: Config, frames: bool) -> Result<Player, NoMemory>
+    ensures waiting { IfOk result (λ player. Holds player (waiting config)) }
+    ensures frames { IfOk result (λ player. is_some player.screen.frames ≡ frames) }
 {
-    let config = Config::new(alloc)?;
+    let size = size_of(&config);
     let session = Session::new(alloc, config, Lines::new(alloc), size, 0)?;
     let terminal = Terminal::start(alloc, size)?;
+    let kept = if frames {
+        Some(Bytes::new(alloc))
+    } else {
+        None
+    };
     Ok(Player {
         alloc,
         session,
         shown: Shown::nothing(),
-        screen: TerminalScreen::new(terminal),
+        screen: TerminalScreen::new(terminal, kept),
         answers: Lines::new(alloc),
-        printed: 0,
+        reports: Vec::new(alloc),
     })
+}
+
+/// The size of the terminal: the one that was set, or 24 rows of 80 columns.
+fn size_of(config: &Config) -> Size
+    ensures { result ≡ terminal_size config.now }
+{
+    match config.size() {
+        Some(size) => size,
+        None => match Size::new(24, 80) {
+            Some(size) => size,
+            None => unreachable!(),
+        },
+    }
+}
+
+/// Resizes the terminal where the event brings another size than this one.
+fn resize_with(terminal: &mut Terminal, size: Size, event: &Event) -> Result<(), NoMemory>
+    ensures resized { OnOk result (terminal.new ≡ terminal_at size (size_after event.now size) terminal.old) }
+    ensures kept { OnOk result (IsTerminal terminal.new) }
+{
+    if let Event::Resize(new) = event {
+        resize_to(terminal, size, *new)?;
+    }
+    prove!(terminal.top() <= terminal.lines());
+    Ok(())
+}
+
+/// Resizes the terminal from one size to another, where they differ.
+fn resize_to(terminal: &mut Terminal, before: Size, now: Size) -> Result<(), NoMemory>
+    ensures resized { OnOk result (terminal.new ≡ terminal_at before now terminal.old) }
+{
+    if !is_same_size(before, now) {
+        terminal.resize(now)?;
+    }
+    Ok(())
 }
 
 /// Does a turn. A terminal in memory refuses a frame only for want of memory.
@@ -129,13 +154,17 @@ fn advance(
     screen: &mut TerminalScreen,
 ) -> Result<(), NoMemory>
     requires drawn { WasDrawnAt session.old.size shown.old }
-    requires one_row { IsOneRow (next session.old event) }
     ensures next { OnOk result (session.new ≡ next session.old event) }
-    ensures shows { OnOk result ((frame : List ℕ) × Obeys screen.old.terminal frame screen.new.terminal × ShowsState shown.old session.new frame) }
+    ensures shows { OnOk result ((frame : List ℕ) × Obeys screen.old.terminal frame screen.new.terminal × Keeps screen.old.frames frame screen.new.frames
+        × ShowsState (shown_at session.old.size session.new.size shown.old) session.new frame) }
     ensures shown { OnOk result (shown.new ≡ screen_after (is_some session.new.outcome) (draw session.new) session.new.size) }
+    ensures rows { OnOk result (1 ≤ session.new.size.rows) }
 {
     match turn(alloc, session, shown, event, screen) {
-        Ok(_) => Ok(()),
+        Ok(_) => {
+            prove!(session.size().rows() >= 1);
+            Ok(())
+        }
         Err(_) => Err(AllocError),
     }
 }
@@ -149,14 +178,4 @@ fn keep_answer(answers: &mut Lines, session: &Session) -> Result<(), NoMemory>
         answers.push(text)?;
     }
     Ok(())
-}
-
-/// How many of the bytes are printable.
-fn count_printable(bytes: &[u8]) -> usize
-    ensures count { result ≡ count_by is_printable bytes.now }
-{
-    bytes
-        .iter()
-        .filter(|byte| matches!(**byte, b' '..=b'~'))
-        .count()
 }

@@ -1,29 +1,29 @@
 // Replaying a script from a source.
-ghost use Rattle.std.specs.Prelude.{◌≡◌, ◌<◌, ◌≤◌, ◌↔◌, length};
+ghost use Rattle.std.specs.Prelude.{◌≡◌, ◌≤◌, ◌↔◌, None, map, string_bytes};
 ghost use Rattle.causes.specs.Faults.{Rose};
-ghost use Rattle.prompt_run.specs.Replay.{Replays};
+ghost use Rattle.prompt_run.specs.Replay.{Replays, asks_frames};
 
 use crate::readers::{ReadFault, read_script};
 use crate::scripts::play;
 use crate::statuses::{NO_MEMORY, SINK_FAULT, SOURCE_FAULT, Status, UNKNOWN_WORDS};
-use cell_grid::Size;
 use ports::{Sink, Source};
 use std::alloc::Global;
 
-/// Reads a script from the source, plays it over a model of a terminal of 24 rows and 80 columns, and puts what it prints on
-/// the sink, all of it in one call. The words are those behind the program's name; there are none that it knows.
+/// Reads a script from the source, plays it over a model of a terminal, and puts what it prints on the sink, all of it in one
+/// call. The words are those behind the program's name: none, or `--frames`.
 ///
-/// What a script prints, and its status, are a function of its bytes: the report of the last screen of its run, the accepted
-/// lines and the status, or the number of the first line that is outside the grammar. It always returns: it reads the source to
-/// its end, or to the first byte behind the most bytes of a script.
+/// What a script prints, and its status, are a function of its bytes: the reports that it asks for, the report of the last screen
+/// of its run, the accepted lines and the status, or the number of the first line that is outside the grammar. With `--frames` the
+/// bytes of the frames stand in place of all that, one frame for each event. It always returns: it reads the source to its end, or to
+/// the first byte behind the most bytes of a script.
 pub fn replay_words<R: Source, O: Sink>(
     alloc: Global,
     words: &[String],
     source: &mut R,
     out: &mut O,
 ) -> Status
-    ensures words { (result ≡ UNKNOWN_WORDS) ↔ (0 < length words.now) }
-    ensures output { Replays (R.supply source.old).left (O.taken out.old) (O.taken out.new) result }
+    ensures words { (result ≡ UNKNOWN_WORDS) ↔ (asks_frames (map string_bytes words.now) ≡ None) }
+    ensures output { Replays (asks_frames (map string_bytes words.now)) (R.supply source.old).left (O.taken out.old) (O.taken out.new) result }
 
     // Nothing is put where nothing was played to its end.
     ensures unread { result ≡ UNKNOWN_WORDS → source.new ≡ source.old }
@@ -37,22 +37,30 @@ pub fn replay_words<R: Source, O: Sink>(
     ensures source_later { (R.supply source.old).faults ≤ (R.supply source.new).faults }
     ensures sink_later { O.faults out.old ≤ O.faults out.new }
 {
-    if !words.is_empty() {
+    let Some(frames) = read_words(words) else {
         return UNKNOWN_WORDS;
-    }
+    };
     let script = match read_script(alloc, source) {
         Ok(script) => script,
         Err(ReadFault::Failed) => return SOURCE_FAULT,
         Err(ReadFault::NoMemory) => return NO_MEMORY,
     };
-    let Some(size) = Size::new(24, 80) else {
-        return NO_MEMORY;
-    };
-    match play(alloc, size, script.as_slice()) {
+    match play(alloc, script.as_slice(), frames) {
         Ok((printed, status)) => match out.put(printed.as_slice()) {
             Ok(()) => status,
             Err(_) => SINK_FAULT,
         },
         Err(_) => NO_MEMORY,
+    }
+}
+
+/// Whether the words ask for frames, where they are words of the command.
+fn read_words(words: &[String]) -> Option<bool>
+    ensures { result ≡ asks_frames (map string_bytes words.now) }
+{
+    match words {
+        [] => Some(false),
+        [word] if word.as_str() == "--frames" => Some(true),
+        _ => None,
     }
 }

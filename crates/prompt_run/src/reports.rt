@@ -8,7 +8,7 @@ use term_model::Terminal;
 use text_doc::{Lines, NoMemory, Text};
 
 /// The characters of a row without the spaces at its end.
-fn row_text(alloc: Global, cells: &[Cell]) -> Result<Text, NoMemory>
+pub fn row_text(alloc: Global, cells: &[Cell]) -> Result<Text, NoMemory>
     ensures text { IfOk result (λ text. text ≡ trimmed (text_of cells.now)) }
 {
     let mut chars = row_chars(alloc, cells)?;
@@ -53,7 +53,7 @@ pub fn write_screen(out: &mut Vec<u8>, terminal: &Terminal) -> Result<(), NoMemo
 }
 
 /// The rows and the columns of the terminal.
-fn window_of(terminal: &Terminal) -> (u32, u32)
+pub fn window_of(terminal: &Terminal) -> (u32, u32)
     ensures rows { result.0 ≡ terminal.now.rows }
     ensures cols { result.1 ≡ terminal.now.cols }
 {
@@ -76,7 +76,7 @@ fn visible_texts(alloc: Global, terminal: &Terminal) -> Result<Lines, NoMemory>
 
 /// Puts the report of a screen behind what was written: its size, the cursor's row and column, and the texts of its rows
 /// down to the later of the cursor's row and the last row with text.
-fn write_report(
+pub fn write_report(
     out: &mut Vec<u8>,
     size: (u32, u32),
     cursor: (u32, u32),

@@ -1,43 +1,89 @@
 // A script from its first line to its last, and what it prints.
-ghost use Rattle.std.specs.Prelude.{◌≡◌, ◌++◌, ◌&&◌, ◌==◌, length, None, if◌then◌else◌, flat_map, IfOk, OnOk};
-ghost use Rattle.prompt_run.specs.Play.{Play, answer_row, closing, output, refusal, replay_size, status_row};
-ghost use Rattle.prompt_run.specs.Playing.{IsPlaying, PlaysLine};
-ghost use Rattle.prompt_run.specs.Lines.{piece_of};
+ghost use Rattle.std.specs.Prelude.{◌≡◌, ◌+◌, ◌<◌, ◌≤◌, ◌^◌, ◌++◌, ◌&&◌, ◌==◌, length, None, if◌then◌else◌, is_some, flat_map, IfOk, OnOk};
+ghost use Rattle.std.specs.List.{list_all};
+ghost use Rattle.prompt_settings.specs.Settings.{no_settings};
+ghost use Rattle.script_lines.specs.Lines.{lines_of};
+ghost use Rattle.script_lines.specs.ScriptLine.{script_line};
+ghost use Rattle.prompt_run.specs.Play.{Play, begun, is_key, played};
+ghost use Rattle.prompt_run.specs.Playing.{Finishes, Holds, PlaysLine, PlaysLines, SetsLine};
+ghost use Rattle.prompt_run.specs.Replay.{Closes, IsOutput};
+ghost use Rattle.prompt_run.specs.Script.{answer_row, closing, configured, output, refusal, status_row};
 
-use crate::lines::{cut_line, read_piece};
 use crate::players::Player;
 use crate::readers::MAX_SCRIPT;
 use crate::reports::write_screen;
-use crate::spelling::write_spelling;
 use crate::statuses::{REFUSED_LINE, Status};
-use cell_grid::Size;
-use std::alloc::Global;
+use script_lines::{ScriptLine, cut_line, read_line, write_spelling};
+use session_core::{Config, Event, SetFault};
+use std::alloc::{AllocError, Global};
 use text_doc::{Lines, NoMemory, Text};
 
-/// Plays the lines of a script. Answers what it prints, and its status.
-pub fn play(alloc: Global, size: Size, script: &[u8]) -> Result<(Vec<u8>, Status), NoMemory>
-    requires size { size ≡ replay_size }
-    ensures output { IfOk result (λ printed. (printed.0.items, printed.1) ≡ output script.now) }
+/// Plays a script. Answers what it prints, or with `frames` the bytes of its frames, and its status.
+pub fn play(alloc: Global, script: &[u8], frames: bool) -> Result<(Vec<u8>, Status), NoMemory>
+    ensures output { IfOk result (λ printed. IsOutput frames script.now printed.0.items) }
+    ensures status { IfOk result (λ printed. printed.1 ≡ (output script.now).1) }
 {
-    let mut player = Player::begin(alloc, size)?;
-    let mut out = Vec::new(alloc);
+    let long = script.len() > MAX_SCRIPT;
+    let (config, rest, number) = read_settings(alloc, script, long)?;
+    let mut player = Player::begin(alloc, config, frames)?;
+    let refused = play_lines(alloc, &mut player, rest, number, long)?;
+    let (printed, status) = close(player, refused)?;
+    Ok((printed, status))
+}
+
+/// Reads the lines that set something, from the first on. Answers the settings, what stands behind those lines, and the number
+/// of the first line there.
+fn read_settings(
+    alloc: Global,
+    script: &[u8],
+    long: bool,
+) -> Result<(Config, &[u8], usize), NoMemory>
+    ensures configured { IfOk result (λ opening. configured long (lines_of script.now) no_settings 1
+        ≡ played long (lines_of opening.1.now) (begun opening.0) opening.2) }
+    ensures few { IfOk result (λ opening. opening.2 + length opening.1.now ≤ 1 + length script.now) }
+{
+    let mut config = Config::new(alloc)?;
     let mut rest = script;
     let mut number = 1usize;
-    let long = script.len() > MAX_SCRIPT;
     while !rest.is_empty() {
         let (line, behind) = cut_line(rest);
         let past = is_past(long, behind);
-        if !play_line(alloc, &mut player, line, past)? {
-            write_refusal(&mut out, number)?;
-            return Ok((out, REFUSED_LINE));
+        if !set_line(alloc, &mut config, line, past)? {
+            return Ok((config, rest, number));
         }
         rest = behind;
         number += 1;
     }
-    player.finish()?;
-    write_closing(&mut out, &player)?;
-    let status = player.status();
-    Ok((out, status))
+    Ok((config, rest, number))
+}
+
+/// Plays the lines behind the settings, of which the first has this number. Answers the number of the line that is refused, if
+/// one is.
+fn play_lines(
+    alloc: Global,
+    player: &mut Player,
+    lines: &[u8],
+    first: usize,
+    long: bool,
+) -> Result<Option<usize>, NoMemory>
+    requires playing { (p : Play) × Holds player.old p }
+    requires few { first + length lines.now < 2 ^ 64 }
+    ensures plays { IfOk result (λ refused. (p : Play) → Holds player.old p
+        → PlaysLines long (lines_of lines.now) first p refused player.new) }
+    ensures frames { OnOk result (is_some player.new.screen.frames ≡ is_some player.old.screen.frames) }
+{
+    let mut rest = lines;
+    let mut number = first;
+    while !rest.is_empty() {
+        let (line, behind) = cut_line(rest);
+        let past = is_past(long, behind);
+        if !play_line(alloc, player, line, past)? {
+            return Ok(Some(number));
+        }
+        rest = behind;
+        number += 1;
+    }
+    Ok(None)
 }
 
 /// Whether the line before these bytes passes the most bytes of a script: it is the last one of a script that is too long.
@@ -47,32 +93,114 @@ fn is_past(long: bool, behind: &[u8]) -> bool
     long && behind.is_empty()
 }
 
-/// Plays one line, and answers whether it is in the grammar. The line that passes the most bytes of a script is not.
-#[tactic(auto, using(crate::proofs::PlayLemmas::plays_piece))]
-fn play_line(alloc: Global, player: &mut Player, line: &[u8], past: bool) -> Result<bool, NoMemory>
-    requires playing { (p : Play) × IsPlaying player.old p }
-    ensures plays { IfOk result (λ fits. (p : Play) → IsPlaying player.old p
-        → PlaysLine fits p (if past then None else piece_of line.now) player.new) }
+/// Sets what a line says, and answers whether it is a line that sets something. The line that passes the most bytes of a
+/// script says nothing.
+fn set_line(alloc: Global, config: &mut Config, line: &[u8], past: bool) -> Result<bool, NoMemory>
+    ensures sets { IfOk result (λ sets. SetsLine sets config.old (if past then None else script_line line.now) config.new) }
 {
     if past {
         return Ok(false);
     }
-    match read_piece(alloc, line)? {
-        Some(bytes) => {
-            let fits = player.take_piece(bytes)?;
-            Ok(fits)
-        }
-        None => Ok(false),
+    match read_line(alloc, line)? {
+        Some(ScriptLine::Set { name, value }) => match config.set(name.as_str(), &value) {
+            Ok(()) => Ok(true),
+            Err(SetFault::NoMemory) => Err(AllocError),
+            Err(_) => Ok(false),
+        },
+        _ => Ok(false),
     }
 }
 
-/// Puts the report of the screen, the accepted lines and the status behind what was written.
-fn write_closing(out: &mut Vec<u8>, player: &Player) -> Result<(), NoMemory>
-    ensures closing { OnOk result ((p : Play) → IsPlaying player.now p → out.new.items ≡ out.old.items ++ closing p) }
+/// Plays one line behind the settings, and answers whether it is in the grammar there.
+fn play_line(alloc: Global, player: &mut Player, line: &[u8], past: bool) -> Result<bool, NoMemory>
+    requires playing { (p : Play) × Holds player.old p }
+    ensures plays { IfOk result (λ fits. (p : Play) → Holds player.old p
+        → PlaysLine fits p (if past then None else script_line line.now) player.new) }
+    ensures frames { OnOk result (is_some player.new.screen.frames ≡ is_some player.old.screen.frames) }
 {
-    write_screen(out, &player.screen.terminal)?;
-    write_answers(out, &player.answers)?;
-    write_status(out, player.status())?;
+    if past {
+        return Ok(false);
+    }
+    let said = match read_line(alloc, line)? {
+        Some(said) => said,
+        None => return Ok(false),
+    };
+    match said {
+        ScriptLine::Piece(bytes) => {
+            if !all_keys(bytes.as_slice()) {
+                return Ok(false);
+            }
+            player.take(Event::Piece(bytes))?;
+        }
+        ScriptLine::Resize(size) => player.take(Event::Resize(size))?,
+        ScriptLine::End => player.take(Event::End)?,
+        ScriptLine::Show => player.report()?,
+        ScriptLine::Set { .. } => return Ok(false),
+    }
+    Ok(true)
+}
+
+/// Whether each byte is a key that is known.
+fn all_keys(bytes: &[u8]) -> bool
+    ensures { result ≡ list_all is_key bytes.now }
+{
+    bytes.iter().all(|byte| is_known_key(*byte))
+}
+
+/// Whether the byte is printable, a delete or a carriage return.
+fn is_known_key(byte: u8) -> bool
+    ensures { result ≡ is_key byte }
+{
+    matches!(byte, b' '..=b'~') || byte == 0x7f || byte == b'\r'
+}
+
+/// Ends a script behind its last line, or behind those before the line that was refused. Answers what is put on the sink, and the
+/// status.
+fn close(player: Player, refused: Option<usize>) -> Result<(Vec<u8>, Status), NoMemory>
+    requires playing { (p : Play) × Holds player p }
+    ensures closes { IfOk result (λ printed. (p : Play) → Holds player p
+        → Closes (is_some player.screen.frames) p refused printed.0.items printed.1) }
+{
+    let mut player = player;
+    let status = finish(&mut player, refused)?;
+    match player.screen.frames.take() {
+        Some(frames) => Ok((frames.into_vec(), status)),
+        None => {
+            let reports = std::mem::replace(&mut player.reports, Vec::new(player.alloc));
+            Ok((reports, status))
+        }
+    }
+}
+
+/// Gives the end of the input where no line was refused, and puts what is printed last behind the reports so far. Answers the
+/// status.
+fn finish(player: &mut Player, refused: Option<usize>) -> Result<Status, NoMemory>
+    requires playing { (p : Play) × Holds player.old p }
+    ensures finishes { IfOk result (λ status. (p : Play) → Holds player.old p → Finishes p refused player.new status) }
+    ensures frames { OnOk result (is_some player.new.screen.frames ≡ is_some player.old.screen.frames) }
+{
+    match refused {
+        Some(number) => {
+            write_refusal(&mut player.reports, number)?;
+            Ok(REFUSED_LINE)
+        }
+        None => {
+            player.take(Event::End)?;
+            write_closing(player)?;
+            Ok(player.status())
+        }
+    }
+}
+
+/// Puts the last report, the accepted lines and the status behind the reports so far.
+fn write_closing(player: &mut Player) -> Result<(), NoMemory>
+    ensures closing { OnOk result ((p : Play) → Holds player.old p → player.new.reports.items ≡ p.reports ++ closing p) }
+    ensures same { OnOk result (player.new ≡ record player.old { reports = player.new.reports }) }
+{
+    let status = player.status();
+    write_screen(&mut player.reports, &player.screen.terminal)?;
+    write_answers(&mut player.reports, &player.answers)?;
+    write_status(&mut player.reports, status)?;
     Ok(())
 }
 

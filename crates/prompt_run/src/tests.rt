@@ -7,29 +7,33 @@ use ports::Event;
 use session_core::{Config, Session};
 use std::alloc::Global;
 use std::test::Fail;
+use term_model::Terminal;
 use text_doc::{Bytes, Lines};
 
-/// The status of a replay over memory, of which the reads and puts with these numbers fail, and what it printed.
+/// The status of a replay over memory, with or without frames, of which the reads and puts with these numbers fail, and what it
+/// put.
 fn replayed(
     alloc: Global,
+    words: &[&str],
     script: &str,
     reads: &[u64],
     puts: &[u64],
 ) -> Result<(Status, Vec<u8>), Fail> {
-    let words = Vec::new(alloc);
+    let mut owned = Vec::new(alloc);
+    for word in words {
+        owned.push(String::from_str(alloc, word)?)?;
+    }
     let reads = FailingCalls::new(Vec::from_slice(alloc, reads)?);
     let puts = FailingCalls::new(Vec::from_slice(alloc, puts)?);
     let mut source = MemorySource::new(Vec::from_slice(alloc, script.as_bytes())?, reads);
     let mut out = MemorySink::new(alloc, puts);
-    let status = replay_words(alloc, words.as_slice(), &mut source, &mut out);
+    let status = replay_words(alloc, owned.as_slice(), &mut source, &mut out);
     Ok((status, Vec::from_slice(alloc, out.bytes())?))
 }
 
 #[test]
 fn prints_what_a_script_gives(rt: HostRuntime) -> Result<(), Fail> {
     let hello = "screen 24 80 1 0\n|> hello\n|\nanswer hello\nstatus 0\n";
-    let seventy_seven =
-        "piece aaaaaaaaaaaaaaaaaaaaaaaaaaaaaaaaaaaaaaaaaaaaaaaaaaaaaaaaaaaaaaaaaaaaaaaaaaaaa";
     let cases = [
         ("piece hello\\x0d\n", hello, ACCEPTED),
         ("piece hel\npiece lo\\x0d", hello, ACCEPTED),
@@ -42,6 +46,19 @@ fn prints_what_a_script_gives(rt: HostRuntime) -> Result<(), Fail> {
         ),
         ("piece a\nfly 3\n", "refused 2\nstatus 9\n", REFUSED_LINE),
         ("piece \\x41\n", "refused 1\nstatus 9\n", REFUSED_LINE),
+        ("piece \\x01\n", "refused 1\nstatus 9\n", REFUSED_LINE),
+        ("set size 0x5\n", "refused 1\nstatus 9\n", REFUSED_LINE),
+        (
+            "set size 3x6\nset size 3x6\n",
+            "refused 2\nstatus 9\n",
+            REFUSED_LINE,
+        ),
+        ("set colour red\n", "refused 1\nstatus 9\n", REFUSED_LINE),
+        (
+            "show\nset message a\n",
+            "screen 24 80 0 2\n|>\nrefused 2\nstatus 9\n",
+            REFUSED_LINE,
+        ),
         (
             "piece C:\\\\\\x0d\n",
             "screen 24 80 1 0\n|> C:\\\n|\nanswer C:\\\\\nstatus 0\n",
@@ -49,33 +66,72 @@ fn prints_what_a_script_gives(rt: HostRuntime) -> Result<(), Fail> {
         ),
     ];
     for (script, printed, status) in cases {
-        let (found, out) = replayed(rt.alloc(), script, &[], &[])?;
+        let (found, out) = replayed(rt.alloc(), &[], script, &[], &[])?;
         assert_eq!(rt; out.as_slice(), printed.as_bytes(), "of {script:?}");
         assert_eq!(rt; found, status, "of {script:?}");
     }
-    let (status, _) = replayed(rt.alloc(), seventy_seven, &[], &[])?;
+    Ok(())
+}
+
+/// Rows that wrap, a window that scrolls, and a terminal that changes its size.
+#[test]
+fn wraps_scrolls_and_resizes(rt: HostRuntime) -> Result<(), Fail> {
+    let cases = [
+        // a full row is followed by the row of the cursor
+        (
+            "set size 3x4\nset message \npiece abcd\nshow\npiece e\nshow\n",
+            "screen 3 4 1 0\n|abcd\n|\nscreen 3 4 1 1\n|abcd\n|e\nscreen 3 4 2 0\n|abcd\n|e\n|\nstatus 1\n",
+        ),
+        (
+            "set size 3x6\npiece abcdefgh\nshow\nresize 3 12\nshow\nresize 1 6\nshow\n",
+            "screen 3 6 1 4\n|> abcd\n|efgh\nscreen 3 12 0 10\n|> abcdefgh\nscreen 1 6 0 4\n|efgh\nscreen 1 6 0 0\n|\nstatus 1\n",
+        ),
+        // the window follows the cursor down, and back up as the text becomes shorter
+        (
+            "set size 2x4\npiece abcdefgh\nshow\npiece \\x7f\\x7f\\x7f\nshow\nend\nresize 3 3\n",
+            "screen 2 4 1 2\n|cdef\n|gh\nscreen 2 4 1 3\n|> ab\n|cde\nscreen 2 4 1 0\n|cde\n|\nstatus 1\n",
+        ),
+    ];
+    for (script, printed) in cases {
+        let (found, out) = replayed(rt.alloc(), &[], script, &[], &[])?;
+        assert_eq!(rt; out.as_slice(), printed.as_bytes(), "of {script:?}");
+        assert_eq!(rt; found, END_OF_FILE, "of {script:?}");
+    }
+    Ok(())
+}
+
+/// A terminal that obeys all frames shows the end of the run, and the frames stand alone.
+#[test]
+fn puts_frames_in_place_of_reports(rt: HostRuntime) -> Result<(), Fail> {
+    let script = "piece hello\nshow\n";
+    let (status, out) = replayed(rt.alloc(), &["--frames"], script, &[], &[])?;
     assert_eq!(rt; status, END_OF_FILE);
-    let more = format!(in rt.alloc(); "{seventy_seven}a")?;
-    let (status, out) = replayed(rt.alloc(), more.as_str(), &[], &[])?;
-    assert_eq!(rt; status, REFUSED_LINE);
-    assert_eq!(rt; out.as_slice(), b"refused 1\nstatus 9\n".as_slice());
+    let size = Size::new(24, 80).ok_or("a size")?;
+    let mut terminal = Terminal::start(rt.alloc(), size)?;
+    terminal.obey(out.as_slice())?;
+    assert_eq!(rt; terminal.cursor(), (1, 0));
+    assert!(rt; terminal.wraps());
+    let (status, out) = replayed(rt.alloc(), &["--frames", "--frames"], script, &[], &[])?;
+    assert_eq!(rt; status, UNKNOWN_WORDS);
+    assert_eq!(rt; out.len(), 0);
     Ok(())
 }
 
 #[test]
 fn tells_faults_apart(rt: HostRuntime) -> Result<(), Fail> {
     for number in [0, 1] {
-        let (status, out) = replayed(rt.alloc(), "piece a\\x0d\n", &[number], &[])?;
+        let (status, out) = replayed(rt.alloc(), &[], "piece a\\x0d\n", &[number], &[])?;
         assert_eq!(rt; status, SOURCE_FAULT, "at read {number}");
         assert_eq!(rt; out.len(), 0);
     }
-    let (status, out) = replayed(rt.alloc(), "piece a\\x0d\n", &[], &[0])?;
+    let (status, out) = replayed(rt.alloc(), &[], "piece a\\x0d\n", &[], &[0])?;
     assert_eq!(rt; status, SINK_FAULT);
     assert_eq!(rt; out.len(), 0);
     Ok(())
 }
 
 #[test]
+#[tactic(auto, using(crate::proofs::TurnLemmas::drawn_behind, crate::proofs::TurnLemmas::drawn_behind_fault))]
 fn ends_at_a_refused_frame(rt: HostRuntime) -> Result<(), Fail> {
     let alloc = rt.alloc();
     let size = Size::new(24, 80).ok_or("a size")?;
@@ -84,11 +140,15 @@ fn ends_at_a_refused_frame(rt: HostRuntime) -> Result<(), Fail> {
     let mut shown = Shown::nothing();
     let second = Vec::from_slice(alloc, &[1])?;
     let mut screen = MemoryScreen::new(alloc, FailingCalls::new(second));
-    let started = turn(alloc, &mut session, &mut shown, Event::Start, &mut screen);
-    assert_eq!(rt; started.ok(), Some(Turned::Going));
+    let Ok(started) = turn(alloc, &mut session, &mut shown, Event::Start, &mut screen) else {
+        panic!(rt; "no first turn");
+    };
+    assert_eq!(rt; started, Turned::Going);
     let piece = Event::Piece(Bytes::from_slice(alloc, b"a")?);
-    let refused = turn(alloc, &mut session, &mut shown, piece, &mut screen);
-    assert_eq!(rt; refused.err(), Some(TurnFault::ScreenFault));
+    let Err(TurnFault::ScreenFault) = turn(alloc, &mut session, &mut shown, piece, &mut screen)
+    else {
+        panic!(rt; "the frame was taken");
+    };
     let ended = turn(alloc, &mut session, &mut shown, Event::End, &mut screen);
     assert_eq!(rt; ended.err(), Some(TurnFault::Ended));
     assert_eq!(rt; screen.len(), 1);

@@ -2,11 +2,13 @@
 ghost use Rattle.std.specs.Prelude.{◌≡◌, ◌≤◌, ◌↔◌, IsTrue, Err, IfOk, IfErr, OnOk, is_some};
 ghost use Rattle.causes.specs.Faults.{Rose};
 ghost use Rattle.diff_render.specs.Frames.{WasDrawnAt, screen_after};
-ghost use Rattle.session_core.specs.Draw.{IsOneRow, draw};
+ghost use Rattle.session_core.specs.Draw.{draw};
 ghost use Rattle.session_core.specs.Next.{next};
 ghost use Rattle.session_core.specs.State.{has_ended};
+ghost use Rattle.prompt_run.specs.Run.{same_size, shown_at};
 ghost use Rattle.prompt_run.specs.Turn.{turned_of, Leaves, TakesState};
 
+use cell_grid::Size;
 use diff_render::{Shown, frame};
 use ports::Screen;
 use session_core::{Event, Outcome, Session, StepFault};
@@ -40,8 +42,9 @@ pub enum TurnFault {
     NoMemory,
 }
 
+#[tactic(auto, using(crate::proofs::ShowLemmas::drawn_at))]
 /// Does the step of the event, makes the frame from what is shown to the drawing of the new state, and gives it to the
-/// screen in one call, an empty frame too.
+/// screen in one call, an empty frame too. Where the event brings another size, the terminal has it when it obeys the frame.
 pub fn turn<S: Screen>(
     alloc: Global,
     session: &mut Session,
@@ -50,12 +53,11 @@ pub fn turn<S: Screen>(
     screen: &mut S,
 ) -> Result<Turned, TurnFault>
     requires drawn { WasDrawnAt session.old.size shown.old }
-    requires one_row { IsOneRow (next session.old event) }
     ensures next { OnOk result (session.new ≡ next session.old event) }
     ensures answer { IfOk result (λ turned. turned ≡ turned_of session.new.outcome) }
 
-    // A terminal that showed what was shown and obeys the frame shows the new state.
-    ensures shows { OnOk result (TakesState S.took screen.old screen.new shown.old session.new) }
+    // A terminal that showed what was shown, takes a resize with the session, and obeys the frame shows the new state.
+    ensures shows { OnOk result (TakesState S.took screen.old screen.new session.old.size shown.old session.new) }
     ensures shown { OnOk result (shown.new ≡ screen_after (is_some session.new.outcome) (draw session.new) session.new.size) }
 
     ensures ended { (result ≡ Err TurnFault.Ended) ↔ IsTrue (has_ended session.old) }
@@ -68,6 +70,7 @@ pub fn turn<S: Screen>(
     ensures nothing { result ≡ Err TurnFault.NoMemory → screen.new ≡ screen.old }
     ensures later { S.faults screen.old ≤ S.faults screen.new }
 {
+    let before = session.size();
     match session.step(event) {
         Ok(()) => {}
         Err(StepFault::Ended) => return Err(TurnFault::Ended),
@@ -79,7 +82,7 @@ pub fn turn<S: Screen>(
     };
     let done = session.outcome().is_some();
     let size = session.size();
-    prove!(size.rows() >= 1);
+    tell_size(shown, before, size);
     let Ok(bytes) = frame(alloc, shown, &drawing, size, done, false) else {
         session.fail();
         return Err(TurnFault::NoMemory);
@@ -89,6 +92,22 @@ pub fn turn<S: Screen>(
         return Err(TurnFault::ScreenFault);
     }
     Ok(outcome_of(session))
+}
+
+/// Tells what is on the screen of a changed size.
+fn tell_size(shown: &mut Shown, before: Size, now: Size)
+    ensures { shown.new ≡ shown_at before now shown.old }
+{
+    if !is_same_size(before, now) {
+        shown.forget_size();
+    }
+}
+
+/// Whether two sizes are equal.
+pub fn is_same_size(a: Size, b: Size) -> bool
+    ensures { result ≡ same_size a b }
+{
+    a.rows() == b.rows() && a.cols() == b.cols()
 }
 
 /// What the session's outcome leaves the prompt at.

@@ -1,7 +1,7 @@
 -- How many cells a drawn text has.
-use Rattle.std.proofs.Common.{◌≡◌, ℕ, suc, ◌≤◌, ◌<◌, true, false, List, [], ◌∷◌, ◌++◌, map, length, fold, refl, ap, sym, ◌∙◌, arith, length-append, append_assoc, Some, unwrap_or, nat_le, nat_eq, if◌then◌else◌, take, drop}
-use Rattle.std.proofs.lemmas.List.{take-append-drop}
-use Rattle.session_core.specs.Draw.{plain_cells, message}
+use Rattle.std.proofs.Common.{◌≡◌, ℕ, suc, ◌+◌, ◌-◌, ◌*◌, ◌/◌, ◌%◌, ◌≤◌, Bool, true, false, nat_lt, List, [], ◌∷◌, ◌++◌, map, length, fold, refl, ap, arith, length-append, Some, unwrap_or, nat_le, nat_eq, if◌then◌else◌}
+use Rattle.std.proofs.lemmas.Bool.{ltb-false}
+use Rattle.std.proofs.lemmas.List.{length-map, length-replicate}
 use Rattle.std.proofs.lemmas.Bool.Decides.{nat_tests}
 use Rattle.unicode_width.specs.Width.{char_width}
 use Rattle.cell_grid.specs.declared.attrs.Attrs.{Attrs}
@@ -9,7 +9,7 @@ use Rattle.cell_grid.specs.declared.cell.Cell.{Cell}
 use Rattle.cell_grid.specs.declared.cell.Cell.TheVariants.{Lead, Tail}
 use Rattle.cell_grid.specs.Cell.{narrow, spread}
 use Rattle.cell_grid.specs.CellText.{with_joined}
-use Rattle.cell_grid.specs.TextCells.{joined_last, has_lead, with_char, with_next, is_control, spelled, lead_of}
+use Rattle.cell_grid.specs.TextCells.{joined_last, has_lead, with_char, with_next, hex_digit, is_control, spelled, lead_of}
 use Rattle.cell_grid.specs.Attrs.{plain}
 
 -- joining a character takes no place
@@ -21,31 +21,6 @@ length-joined_last (Lead text width attrs ∷ rest) char =
       | false ↦ refl
     ]
 length-joined_last (Tail ∷ rest) char = ap suc (length-joined_last rest char)
-
--- what is put behind cells makes them no fewer
-longer : (cells more : List Cell) → length cells ≤ length (cells ++ more)
-longer cells more = omega (arith, length-append cells more)
-
-pub length-with_next : (attrs control : Attrs) (cells : List Cell) (char : ℕ) → length cells ≤ length (with_next attrs control cells char)
-length-with_next attrs control cells char =
-    let P : List Cell → Type 0 = λ more. length cells ≤ length more in
-    let joined : P (joined_last cells char) = omega (arith, length-joined_last cells char) in
-    let width = unwrap_or (char_width false char) 0 in
-    elim (is_control char) as (λ b. P (if b then cells ++ map (λ piece. narrow piece control) (spelled char) else with_char cells char width attrs)) [
-      | true ↦ longer cells _
-      | false ↦ elim (nat_eq char 160) as (λ b. P (if b then cells ++ narrow 32 attrs ∷ [] else (if nat_eq width 0 then joined_last cells char else cells ++ spread (lead_of char width attrs)))) [
-        | true ↦ longer cells _
-        | false ↦ elim (nat_eq width 0) as (λ b. P (if b then joined_last cells char else cells ++ spread (lead_of char width attrs))) [
-          | true ↦ joined
-          | false ↦ longer cells _
-        ]
-      ]
-    ]
-
-pub length-drawn : (attrs control : Attrs) (cells : List Cell) (chars : List ℕ) → length cells ≤ length (fold (with_next attrs control) cells chars)
-length-drawn attrs control cells [] = omega arith
-length-drawn attrs control cells (char ∷ chars) =
-    omega (arith, length-with_next attrs control cells char, length-drawn attrs control (with_next attrs control cells char) chars)
 
 -- drawing goes on behind what is drawn
 pub drawn-append : (attrs control : Attrs) (cells : List Cell) (chars more : List ℕ)
@@ -66,15 +41,38 @@ with_next-printable cells char low high =
     let other : nat_eq char 160 ≡ false = grind (arith, nat_tests) in
     rw (typed, other, width-printable char low high) refl
 
--- the cells before a place are fewer than those of the line, which has a blank behind its text
-pub cursor_within : (text : List ℕ) (at : ℕ) → length (plain_cells (message ++ take at text)) < length (plain_cells (message ++ text ++ 32 ∷ []))
-cursor_within text at =
-    let drawing : List Cell → List ℕ → List Cell = fold (with_next plain plain) in
-    let front : List ℕ = message ++ take at text in
-    let back : List ℕ = drop at text in
-    let cut : message ++ text ++ 32 ∷ [] ≡ front ++ (back ++ 32 ∷ []) =
-    ap (λ whole. message ++ whole ++ 32 ∷ []) (sym (take-append-drop at text)) ∙ simp append_assoc in
-    let drawn : drawing [] (message ++ text ++ 32 ∷ []) ≡ drawing (drawing [] front) back ++ narrow 32 plain ∷ [] =
-    ap (drawing []) cut ∙ drawn-append plain plain [] front (back ++ 32 ∷ []) ∙ drawn-append plain plain (drawing [] front) back (32 ∷ [])
-    ∙ with_next-printable (drawing (drawing [] front) back) 32 refl refl in
-    omega (arith, ap length drawn, length-append (drawing (drawing [] front) back) (narrow 32 plain ∷ []), length-drawn plain plain (drawing [] front) back)
+-- a character takes at most four cells
+length-with_next-most : (cells : List Cell) (char : ℕ) → length (with_next plain plain cells char) ≤ length cells + 4
+length-with_next-most cells char =
+    let P : List Cell → Type 0 = λ more. length more ≤ length cells + 4 in
+    let width = unwrap_or (char_width false char) 0 in
+    elim (is_control char) as (λ b. P (if b then cells ++ map (λ piece. narrow piece plain) (spelled char) else with_char cells char width plain)) [
+      | true ↦ omega (arith, length-append cells (map (λ piece. narrow piece plain) (spelled char)), length-map (spelled char) (λ piece. narrow piece plain), few_spelled char)
+      | false ↦ elim (nat_eq char 160) as (λ b. P (if b then cells ++ narrow 32 plain ∷ [] else (if nat_eq width 0 then joined_last cells char else cells ++ spread (lead_of char width plain)))) [
+        | true ↦ omega (arith, length-append cells (narrow 32 plain ∷ []))
+        | false ↦ elim (nat_eq width 0) as (λ b. P (if b then joined_last cells char else cells ++ spread (lead_of char width plain))) [
+          | true ↦ omega (arith, length-joined_last cells char)
+          | false ↦ omega (arith, length-append cells (spread (lead_of char width plain)), few_spread char width)
+        ]
+      ]
+    ]
+  where
+    few_spelled : (char : ℕ) → length (spelled char) ≤ 4
+    few_spelled char = elim (nat_lt char 32) as (λ b. length (if b then 94 ∷ (64 + char) ∷ [] else if nat_eq char 127 then 94 ∷ 63 ∷ [] else 60 ∷ hex_digit (char / 16) ∷ hex_digit (char % 16) ∷ 62 ∷ []) ≤ 4) [
+      | true ↦ omega arith
+      | false ↦ elim (nat_eq char 127) as (λ b. length (if b then 94 ∷ 63 ∷ [] else 60 ∷ hex_digit (char / 16) ∷ hex_digit (char % 16) ∷ 62 ∷ []) ≤ 4) [
+        | true ↦ omega arith
+        | false ↦ omega arith
+      ]
+    ]
+
+    few_spread : (char width : ℕ) → length (spread (lead_of char width plain)) ≤ 4
+    few_spread char width = by (nat_lt 2 width) refl
+      where
+        by : (b : Bool) → nat_lt 2 width ≡ b → length (spread (if b then narrow 65533 plain else Lead (char ∷ []) width plain)) ≤ 4
+        by true wide = omega arith
+        by false thin = omega (arith, length-replicate (width - 1) Tail, ltb-false 2 width thin)
+
+pub length-drawn-most : (cells : List Cell) (chars : List ℕ) → length (fold (with_next plain plain) cells chars) ≤ length cells + 4 * length chars
+length-drawn-most cells [] = omega arith
+length-drawn-most cells (char ∷ chars) = omega (arith, length-with_next-most cells char, length-drawn-most (with_next plain plain cells char) chars)

@@ -1,3 +1,4 @@
 pub mod CellLemmas
-pub mod GridLemmas
 pub mod TypedLemmas
+pub mod WindowLemmas
+pub mod KeyLemmas

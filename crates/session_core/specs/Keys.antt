@@ -4,6 +4,7 @@ use Rattle.text_doc.specs.Document.{Document}
 use Rattle.text_doc.specs.Edits.{inserted, deleted}
 use Rattle.text_doc.specs.declared.documents.TheConstants.{MAX_LENGTH}
 use Rattle.session_core.specs.declared.outcomes.Outcome.TheVariants.{Accepted}
+use Rattle.session_core.specs.Draw.{settle}
 use Rattle.session_core.specs.State.{State}
 
 -- printable ASCII
@@ -30,9 +31,9 @@ erased doc = if doc.cursor == 0 then doc else deleted doc (doc.cursor - 1) doc.c
 abbrev pub edited : Document → ℕ → Document
 edited doc byte = if is_printable byte then typed doc byte else if is_erase byte then erased doc else doc
 
--- the keys are run in order; one that accepts ends the prompt, and those behind it are kept
+-- the keys are run in order, and the window follows the cursor behind each; one that accepts ends the prompt, and those behind it are kept
 abbrev pub ran : State → List ℕ → State
 ran s [] = s
 ran s (byte ∷ bytes) =
-    if is_accept byte then record s { outcome = Some (Accepted s.doc.text); kept = bytes }
-    else ran (record s { doc = edited s.doc byte }) bytes
+    if is_accept byte then settle (record s { outcome = Some (Accepted s.doc.text); kept = bytes })
+    else ran (settle (record s { doc = edited s.doc byte })) bytes

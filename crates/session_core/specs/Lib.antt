@@ -3,4 +3,4 @@ pub mod Fields
 pub mod Keys
 pub mod Next
 pub mod State
-pub mod Typed
+pub mod Windows

@@ -1,61 +1,109 @@
-// The drawing of a state: the message and the text in one row.
-ghost use Rattle.std.specs.Prelude.{◌≡◌, ◌-◌, ◌≤◌, ◌<◌, [], ◌∷◌, ◌++◌, length, take, IfOk};
+// The drawing of a state: the rows of its line that the buffer's window shows.
+ghost use Rattle.std.specs.Prelude.{◌≡◌, ◌+◌, ◌≤◌, ◌++◌, ℕ, List, true, codes, length, IfOk, OnErr, OnOk};
+ghost use Rattle.std.specs.List.{All, list_all};
 ghost use Rattle.cell_grid.specs.Grid.{columns};
-ghost use Rattle.cell_grid.specs.Row.{blank_row};
-ghost use Rattle.session_core.specs.Draw.{line_of, drawn_line, plain_cells, plain_fragment, message, AllNarrow, FitsRow};
+ghost use Rattle.cell_grid.specs.Row.{IsWhole};
+ghost use Rattle.text_doc.specs.Document.{IsDocument};
+ghost use Rattle.win_view.specs.Contents.{IsContent, content_rows};
+ghost use Rattle.win_view.specs.Views.{viewed};
+ghost use Rattle.session_core.specs.Draw.{content_by, window_by, drawn_view, plain_cells};
+ghost use Rattle.session_core.specs.Keys.{is_printable};
+ghost use Rattle.session_core.specs.Windows.{ShowsCursor, typed_cells};
 
-use cell_grid::{Attrs, Cell, CellRow, Drawing, Fragment, Grid, Size, cells_of};
+use cell_grid::{Attrs, Cell, CellRow, CellRows, Drawing, Fragment, Size, cells_of};
 use std::alloc::Global;
 use text_doc::{Doc, NoMemory, Text};
+use win_view::{Content, Scroll, height, view};
 
-/// Draws the message, the text and a blank behind it in one row, filled up with blanks.
-#[tactic(auto, using(crate::proofs::TypedLemmas::line_fits))]
-pub fn draw_line(alloc: Global, doc: &Doc, size: Size) -> Result<Drawing, NoMemory>
-    requires one_row { FitsRow size.cols doc.now }
-    ensures drawn { IfOk result (λ drawing. drawing ≡ drawn_line doc.now size.cols) }
+/// Draws what the buffer's window shows of the message, whose cells are given, the text and a blank behind it. Each character of
+/// the text is a cell of one column.
+pub fn draw_window(
+    alloc: Global,
+    prompt: &CellRow,
+    doc: &Doc,
+    size: Size,
+    scroll: Scroll,
+) -> Result<Drawing, NoMemory>
+    requires few { length prompt.now ≤ 1000 }
+    requires printable { list_all is_printable doc.now.text ≡ true }
+    ensures drawn { IfOk result (λ drawing. (message : List ℕ) → prompt.now ≡ plain_cells message
+        → drawing ≡ drawn_view (viewed (content_by message doc.now) (window_by (content_by message doc.now) size) scroll)) }
+    ensures wide { IfOk result (λ drawing. columns drawing.grid ≡ size.cols) }
+    ensures high { IfOk result (λ drawing. (1 ≤ length drawing.grid) × (length drawing.grid ≤ size.rows)) }
+    ensures cursor { IfOk result (λ drawing. (message : List ℕ) → prompt.now ≡ plain_cells message
+        → ShowsCursor (content_by message doc.now) size scroll drawing) }
 {
-    let cells = line_cells(alloc, doc)?;
-    let col = cursor_column(alloc, doc)?;
-    let grid = one_row(alloc, &cells, size)?;
+    let content = line_content(alloc, prompt, doc)?;
+    let window = window_size(&content, size);
+    let view = view(alloc, &content, window, scroll)?;
     Ok(Drawing {
-        grid,
-        row: 0,
-        col: col as u32,
+        grid: view.grid,
+        row: view.row,
+        col: view.col,
     })
 }
 
-/// The cells of the message, the text and a blank.
-fn line_cells(alloc: Global, doc: &Doc) -> Result<CellRow, NoMemory>
-    ensures cells { IfOk result (λ cells. cells ≡ line_of doc.now) }
+/// The size of the window: as many rows as the content has, or as the terminal has where these are fewer.
+fn window_size(content: &Content, size: Size) -> Size
+    requires content { IsContent content.now }
+    requires some { 1 ≤ length (content_rows content.now size.cols) }
+    ensures window { result ≡ window_by content.now size }
+    ensures rows { 1 ≤ size.rows }
+    ensures cols { 1 ≤ size.cols }
 {
-    let mut line = behind_message(alloc, doc.chars())?;
-    line.push(' ')?;
-    plain_row(alloc, line)
+    let rows = height(content, size.cols());
+    match Size::new(rows.min(size.rows()), size.cols()) {
+        Some(window) => window,
+        None => unreachable!(),
+    }
 }
 
-/// How many cells the message and the text before the cursor have.
-#[tactic(auto, using(crate::proofs::CellLemmas::cursor_within))]
-fn cursor_column(alloc: Global, doc: &Doc) -> Result<usize, NoMemory>
-    ensures column { IfOk result (λ column. column ≡ length (plain_cells (message ++ take doc.now.cursor doc.now.text))) }
-    ensures within { IfOk result (λ column. column < length (line_of doc.now)) }
+/// The line that the window shows, with the cursor on its cell.
+fn line_content(alloc: Global, prompt: &CellRow, doc: &Doc) -> Result<Content, NoMemory>
+    requires few { length prompt.now ≤ 1000 }
+    requires printable { list_all is_printable doc.now.text ≡ true }
+    ensures content { IfOk result (λ content. (message : List ℕ) → prompt.now ≡ plain_cells message → content ≡ content_by message doc.now) }
+    ensures few { IfOk result IsContent }
+    ensures some { IfOk result (λ content. (width : ℕ) → 1 ≤ length (content_rows content width)) }
+    ensures whole { IfOk result (λ content. All IsWhole content.lines) }
 {
-    let (before, _) = doc.chars().split_at(doc.cursor());
-    let line = behind_message(alloc, before)?;
-    let cells = plain_row(alloc, line)?;
-    Ok(cells.len())
+    let line = line_cells(prompt, doc)?;
+    let cell = prompt.len() + doc.cursor();
+    let mut lines = CellRows::new(alloc);
+    lines.push(line)?;
+    Ok(Content {
+        lines,
+        line: 0,
+        cell,
+        wrap: true,
+    })
 }
 
-/// The message and a text.
-fn behind_message(alloc: Global, text: &[char]) -> Result<Text, NoMemory>
-    ensures line { IfOk result (λ line. line ≡ message ++ text.now) }
+/// The cells of the message, one for each character of the text, and a blank.
+fn line_cells(prompt: &CellRow, doc: &Doc) -> Result<CellRow, NoMemory>
+    ensures cells { IfOk result (λ cells. cells ≡ prompt.now ++ typed_cells (doc.now.text ++ codes " ")) }
+    ensures document { IfOk result (λ _. IsDocument doc.now) }
+    ensures whole { IfOk result (λ cells. IsWhole cells) }
 {
-    let mut line = Text::from_chars(alloc, &['>', ' '])?;
-    line.extend_from_slice(text)?;
-    Ok(line)
+    let mut cells = prompt.copy()?;
+    push_chars(&mut cells, doc.chars())?;
+    push_chars(&mut cells, &[' '])?;
+    prove!(cells.as_slice().len() == cells.len());
+    Ok(cells)
+}
+
+/// Puts a cell of one column for each character behind the others.
+fn push_chars(cells: &mut CellRow, chars: &[char]) -> Result<(), NoMemory>
+    ensures pushed { OnOk result (cells.new ≡ cells.old ++ typed_cells chars.now) }
+{
+    for c in chars {
+        cells.push(Cell::narrow(*c, Attrs::plain()))?;
+    }
+    Ok(())
 }
 
 /// The cells of a text without attributes.
-fn plain_row(alloc: Global, text: Text) -> Result<CellRow, NoMemory>
+pub fn plain_row(alloc: Global, text: Text) -> Result<CellRow, NoMemory>
     ensures cells { IfOk result (λ cells. cells ≡ plain_cells text) }
 {
     let fragment = Fragment {
@@ -64,28 +112,4 @@ fn plain_row(alloc: Global, text: Text) -> Result<CellRow, NoMemory>
         text,
     };
     cells_of(alloc, &[fragment])
-}
-
-/// A grid of one row, as wide as the terminal: the cells, then blanks.
-fn one_row(alloc: Global, cells: &CellRow, size: Size) -> Result<Grid, NoMemory>
-    requires narrow { AllNarrow cells.now }
-    requires fits { length cells.now ≤ size.cols }
-    ensures grid { IfOk result (λ grid. grid ≡ (cells.now ++ blank_row (size.cols - length cells.now)) ∷ []) }
-{
-    let mut grid = Grid::blank(alloc, 1, size.cols())?;
-    put_cells(&mut grid, cells.as_slice());
-    Ok(grid)
-}
-
-/// Puts the cells into the first row of a grid of blanks, from the left on.
-fn put_cells(grid: &mut Grid, cells: &[Cell])
-    requires blank { grid.old ≡ blank_row (columns grid.old) ∷ [] }
-    requires narrow { AllNarrow cells.now }
-    requires fits { length cells.now ≤ columns grid.old }
-    requires few { columns grid.old ≤ 1000 }
-    ensures put { grid.new ≡ (cells.now ++ blank_row (columns grid.old - length cells.now)) ∷ [] }
-{
-    for (col, cell) in cells.iter().enumerate() {
-        grid.put(0, col as u32, *cell);
-    }
 }

@@ -1,12 +1,13 @@
 //! A prompt's session: its state, what an event does to it, and its drawing.
 #![tactic(auto)]
 
-mod configs;
 mod drawings;
+mod edits;
 mod outcomes;
 mod sessions;
+mod windows;
 
-pub use configs::Config;
 pub use outcomes::{Outcome, StepFault};
 pub use ports::Event;
+pub use prompt_settings::{Config, SetFault};
 pub use sessions::Session;

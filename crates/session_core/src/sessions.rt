@@ -1,16 +1,16 @@
 // A session: its state, and what an event does to it.
-ghost use Rattle.std.specs.Prelude.{◌≡◌, ◌↔◌, IfOk, OnOk, Err, option_copied};
-ghost use Rattle.text_doc.specs.Document.{Document};
-ghost use Rattle.session_core.specs.Keys.{ran, edited, erased, typed};
 
-use crate::configs::Config;
-use crate::drawings::draw_line;
+use crate::drawings::{draw_window, plain_row};
+use crate::edits::edit;
 use crate::outcomes::{Outcome, StepFault};
-use cell_grid::{Drawing, Size};
+use crate::windows::settled_scroll;
+use cell_grid::{CellRow, Drawing, Size};
 use ports::Event;
-use std::alloc::{AllocError, Global};
+use prompt_settings::Config;
+use std::alloc::Global;
 use std::marker::Model;
-use text_doc::{Bytes, Doc, InsertFault, Lines, NoMemory, Text};
+use text_doc::{Bytes, Doc, Lines, NoMemory, Text};
+use win_view::Scroll;
 
 /// The state of one prompt: a line that is being edited until it is accepted.
 #[derive(Debug, Drop)]
@@ -19,6 +19,10 @@ pub struct Session {
     doc: Doc,
     size: Size,
     moment: u64,
+    config: Config,
+    // the cells of the message
+    prompt: CellRow,
+    scroll: Scroll,
     outcome: Option<Outcome>,
     kept: Bytes,
     failed: bool,
@@ -29,33 +33,44 @@ impl Model for Session {
 
     ghost Value = { State };
 
-    ghost use Rattle.session_core.specs.Fields.{state_of};
+    ghost use Rattle.session_core.specs.Fields.{state_of, IsKept};
 
     ghost view = { state_of };
+
+    ghost invariant = { IsKept };
 }
 
 impl Session {
-    ghost use Rattle.std.specs.Prelude.{◌≡◌, ◌↔◌, IsTrue, IfOk, OnOk, OnErr, Err, option_copied};
+    ghost use Rattle.std.specs.Prelude.{◌≡◌, ◌≤◌, ◌↔◌, IsTrue, IfOk, OnOk, OnErr, Err, length, option_copied};
+    ghost use Rattle.cell_grid.specs.Grid.{columns};
     ghost use Rattle.session_core.specs.State.{opened, failed, has_ended, HasFailed};
     ghost use Rattle.session_core.specs.Next.{next};
-    ghost use Rattle.session_core.specs.Draw.{draw, IsOneRow};
+    ghost use Rattle.session_core.specs.Draw.{draw, settle, IsSettled};
+    ghost use Rattle.session_core.specs.Keys.{ran};
+    ghost use Rattle.session_core.specs.Windows.{HasCursorInside};
 
-    /// A session before its first event, with an empty text. The moment is in milliseconds since 1970.
+    /// A session before its first event, with an empty text. The moment is in milliseconds since 1970. No setting uses the
+    /// history yet.
     pub fn new(
         alloc: Global,
-        _config: Config,
+        config: Config,
         _history: Lines,
         size: Size,
         moment: u64,
     ) -> Result<Session, NoMemory>
-        ensures opened { IfOk result (λ session. session ≡ opened size moment) }
+        ensures opened { IfOk result (λ session. session ≡ opened config size moment) }
     {
         let doc = Doc::new(alloc, Text::new(alloc), 0)?;
+        let message = Text::from_chars(alloc, config.message())?;
+        let prompt = plain_row(alloc, message)?;
         Ok(Session {
             alloc,
             doc,
             size,
             moment,
+            config,
+            prompt,
+            scroll: Scroll { down: 0, across: 0 },
             outcome: None,
             kept: Bytes::new(alloc),
             failed: false,
@@ -81,24 +96,27 @@ impl Session {
         }
     }
 
-    /// Does the step of the event.
+    /// Does the step of the event, and scrolls the window to the cursor.
     fn take(&mut self, event: Event) -> Result<(), NoMemory>
         ensures next { OnOk result (self.new ≡ next self.old event) }
     {
         match event {
             Event::Start => {
                 let kept = std::mem::replace(&mut self.kept, Bytes::new(self.alloc));
-                self.run_keys(kept.as_slice())
+                self.settle();
+                self.run_keys(kept.as_slice())?;
             }
-            Event::Piece(bytes) => self.run_keys(bytes.as_slice()),
-            Event::End => {
-                self.outcome = Some(Outcome::EndOfFile);
-                Ok(())
-            }
+            Event::Piece(bytes) => self.run_keys(bytes.as_slice())?,
+            Event::Resize(size) => self.size = size,
+            Event::End => self.outcome = Some(Outcome::EndOfFile),
         }
+        self.settle();
+        Ok(())
     }
 
-    /// Runs the keys, of which each byte is one, until one of them ends the prompt.
+    #[tactic(auto, using(crate::proofs::TypedLemmas::edited_printable))]
+    /// Runs the keys, of which each byte is one, until one of them ends the prompt. The cost of a key is that of its edit and
+    /// of one walk of the message's cells.
     fn run_keys(&mut self, bytes: &[u8]) -> Result<(), NoMemory>
         ensures ran { OnOk result (self.new ≡ ran self.old bytes.now) }
     {
@@ -108,20 +126,34 @@ impl Session {
                 let kept = Bytes::from_slice(self.alloc, &bytes[at + 1..])?;
                 self.outcome = Some(Outcome::Accepted(text));
                 self.kept = kept;
+                self.settle();
                 return Ok(());
             }
             edit(&mut self.doc, *byte)?;
+            self.settle();
         }
         Ok(())
     }
 
-    /// The full drawing of the present state. Until lines wrap, the line has to fit one row of the terminal.
+    #[tactic(auto, using(crate::proofs::WindowLemmas::short_prompt))]
+    /// Scrolls the window to the cursor.
+    fn settle(&mut self)
+        ensures settled { self.new ≡ settle self.old }
+    {
+        self.scroll = settled_scroll(&self.prompt, &self.doc, self.size, self.scroll);
+    }
+
+    #[tactic(auto, using(crate::proofs::WindowLemmas::short_prompt))]
+    /// The full drawing of the present state: the lesser of the terminal's rows and the rows of the line. Its time is one walk of
+    /// the text and of the window.
     pub fn drawing(&mut self) -> Result<Drawing, NoMemory>
-        requires one_row { IsOneRow self.old }
         ensures drawn { IfOk result (λ drawing. drawing ≡ draw self.old) }
+        ensures wide { IfOk result (λ drawing. columns drawing.grid ≡ self.old.size.cols) }
+        ensures high { IfOk result (λ drawing. (1 ≤ length drawing.grid) × (length drawing.grid ≤ self.old.size.rows)) }
+        ensures cursor { IfOk result (λ drawing. IsSettled self.old → HasCursorInside drawing) }
         ensures same { self.new ≡ self.old }
     {
-        let drawing = draw_line(self.alloc, &self.doc, self.size)?;
+        let drawing = draw_window(self.alloc, &self.prompt, &self.doc, self.size, self.scroll)?;
         Ok(drawing)
     }
 
@@ -166,38 +198,5 @@ impl Session {
         ensures moment { result ≡ self.now.moment }
     {
         self.moment
-    }
-}
-
-/// Does a key that does not end the prompt: printable ASCII is typed at the cursor where there is room, delete erases the
-/// character before the cursor where there is one, and any other key does nothing.
-fn edit(doc: &mut Doc, byte: u8) -> Result<(), NoMemory>
-    ensures edited { OnOk result (doc.new ≡ edited doc.old byte) }
-{
-    match byte {
-        b' '..=b'~' => type_char(doc, char::from(byte))?,
-        0x7f => erase_char(doc),
-        _ => {}
-    }
-    Ok(())
-}
-
-/// Types a character at the cursor, where there is room.
-fn type_char(doc: &mut Doc, c: char) -> Result<(), NoMemory>
-    ensures typed { OnOk result (doc.new ≡ typed doc.old c) }
-{
-    match doc.insert(&[c]) {
-        Ok(()) | Err(InsertFault::TooLong) => Ok(()),
-        Err(InsertFault::NoMemory) => Err(AllocError),
-    }
-}
-
-/// Erases the character before the cursor, where there is one.
-fn erase_char(doc: &mut Doc)
-    ensures erased { doc.new ≡ erased doc.old }
-{
-    let cursor = doc.cursor();
-    if cursor > 0 {
-        doc.delete(cursor - 1, cursor);
     }
 }

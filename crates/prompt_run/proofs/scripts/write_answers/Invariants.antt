@@ -1,5 +1,5 @@
 use Rattle.std.proofs.Common.{◌≡◌, ◌++◌, drop, flat_map}
-use Rattle.prompt_run.specs.Play.{answer_row}
+use Rattle.prompt_run.specs.Script.{answer_row}
 use Rattle.prompt_run.proofs.scripts.write_answers.Given as goal
 
 -- what was written and the lines of the answers that are left are all lines

@@ -1,30 +1,32 @@
-use Rattle.std.proofs.Common.{◌≡◌, ap, sym, ◌∙◌, subst, arith}
-use Rattle.cell_grid.specs.Size.{Extent}
-use Rattle.diff_render.specs.Frames.{WasDrawnAt}
-use Rattle.session_core.specs.Draw.{IsOneRow}
-use Rattle.prompt_run.proofs.DrawLemmas.{draw_cursor, draw_drawable, draw_fits}
-use Rattle.prompt_run.proofs.PlayLemmas.{next-size}
+-- The drawing of a state that was settled can be shown.
+use Rattle.std.proofs.Common.{◌≡◌, ◌∙◌, ap, is_some, sym, subst, refl, rules}
+use Rattle.cell_grid.specs.declared.drawing.Drawing.{Drawing}
+use Rattle.diff_render.specs.Drawable.{AllRowsDrawable}
+use Rattle.session_core.specs.Draw.{IsSettled, draw}
+use Rattle.session_core.specs.Next.{stepped}
+use Rattle.prompt_run.proofs.DrawLemmas.{draw_drawable}
+use Rattle.prompt_run.specs.Run.{shown_at}
+use Rattle.prompt_run.proofs.TurnLemmas.{shows_state}
 use Rattle.prompt_run.proofs.turns.turn.Goals as goal
 
-pub frame-requires-clause-was : goal.frame-requires-clause-was
-frame-requires-clause-was g c =
-    let same : c.size-size.result ≡ c.args.session.now.size =
-    c.size-size.ensures.size ∙ ap (λ s. s.size) c.in-Ok-drawing.ensures.same ∙ ap (λ s. s.size) c.in-Ok.ensures.next ∙ next-size c.args.session.now c.args.event in
-    let P : Extent → Type 0 = λ e. WasDrawnAt e c.args.shown.now in
-    subst P (sym same) c.requires.drawn
-
-pub frame-requires-clause-fits : goal.frame-requires-clause-fits
-frame-requires-clause-fits g c =
-    let same : c.size-size.result ≡ c.step.new.self.size = c.size-size.ensures.size ∙ ap (λ s. s.size) c.in-Ok-drawing.ensures.same in
-    let row : IsOneRow c.step.new.self = subst IsOneRow (sym c.in-Ok.ensures.next) c.requires.one_row in
-    draw_fits c.step.new.self c.size-size.result c.in-Ok-drawing.drawing row same c.in-Ok-drawing.ensures.drawn (omega (arith, c.rows.ensures.some, c.rows.ensures.value))
-
 pub frame-requires-clause-cursor : goal.frame-requires-clause-cursor
-frame-requires-clause-cursor g c =
-    let row : IsOneRow c.step.new.self = subst IsOneRow (sym c.in-Ok.ensures.next) c.requires.one_row in
-    λ going. draw_cursor c.step.new.self c.in-Ok-drawing.drawing row c.in-Ok-drawing.ensures.drawn
+frame-requires-clause-cursor g c = λ going.
+    let settled : IsSettled c.step.new.self = subst IsSettled (sym c.in-Ok.ensures.next) ((stepped c.args.session.now c.args.event).scroll, refl) in
+    let inside = c.in-Ok-drawing.ensures.cursor settled in
+    record { in_rows = inside.in_rows; in_cols = inside.in_cols }
 
 pub frame-requires-clause-cells : goal.frame-requires-clause-cells
 frame-requires-clause-cells g c =
-    let row : IsOneRow c.step.new.self = subst IsOneRow (sym c.in-Ok.ensures.next) c.requires.one_row in
-    draw_drawable c.step.new.self c.in-Ok-drawing.drawing row c.in-Ok-drawing.ensures.drawn
+    let P : Drawing → Type 0 = λ d. AllRowsDrawable d.grid in subst P (sym c.in-Ok-drawing.ensures.drawn) (draw_drawable c.step.new.self)
+
+pub returns-clause-shows : goal.returns-clause-shows
+returns-clause-shows g c =
+    let frame = c.in-Ok-frame.ensures in
+    let finished : c.is_some-done.result ≡ is_some c.drawing.new.self.outcome = search rules in (
+      c.in-Ok-frame.bytes,
+      search rules,
+      shows_state c.drawing.new.self c.args.session.now.size c.size-size.result c.args.shown.now c.tell_size.new.shown c.in-Ok-drawing.drawing c.is_some-done.result
+          c.in-Ok-frame.bytes c.size-size.ensures.size (c.in-Ok-drawing.ensures.drawn ∙ ap draw (sym c.in-Ok-drawing.ensures.same)) finished
+          (c.tell_size.ensures ∙ ap (λ e. shown_at e c.size-size.result c.args.shown.now) c.size-before.ensures.size)
+          (record { shows = frame.shows; touches = frame.touches; short = frame.short; unchanged = frame.unchanged }),
+    )

@@ -1,13 +1,25 @@
-use Rattle.std.proofs.Common.{◌≡◌, false, refl, ◌∙◌}
+-- The terminal takes a resize, and then obeys the frame of the turn.
+use Rattle.std.proofs.Common.{◌≡◌, false, refl, ap, ◌∙◌}
 use Rattle.session_core.specs.State.{has_ended}
-use Rattle.prompt_run.proofs.PlayLemmas.{held_next, next-size}
+use Rattle.prompt_run.specs.Run.{size_after, terminal_at}
+use Rattle.prompt_run.proofs.PlayLemmas.{held_next}
 use Rattle.prompt_run.proofs.players.Player.take.Goals as goal
 
-pub returns : goal.returns
-returns c =
+pub returns-clause-done : goal.returns-clause-done
+returns-clause-done c = λ p holds.
     let going : has_ended c.args.self.now.session ≡ false = cc in
     let shows = c.in_ok-advance.ensures.shows in
-    record {
-      done = λ p holds. held_next c.args.self.now _ p c.args.event holds going c.in_ok-advance.ensures.next shows.0 shows.1 shows.2 c.in_ok-advance.ensures.shown
-          (next-size p.state c.args.event ∙ holds.size) c.in_ok-keep_answer.ensures.kept refl;
-    }
+    held_next c.args.self.now _ p c.args.event holds going (record {
+      sized = c.resize_with.new.terminal;
+      resize = c.in_ok-resize_with.ensures.resized ∙ ap (λ e. terminal_at e (size_after c.args.event e) c.args.self.now.screen.terminal) c.size.ensures.size;
+      terminal = c.in_ok-resize_with.ensures.kept;
+      rows = c.in_ok-advance.ensures.rows;
+      state = c.in_ok-advance.ensures.next;
+      frame = shows.0;
+      obeys = shows.1;
+      keeps = shows.2;
+      shows = shows.3;
+      shown = c.in_ok-advance.ensures.shown;
+      answers = c.in_ok-keep_answer.ensures.kept;
+      reports = refl;
+    })

@@ -1,0 +1,22 @@
+-- What frames do to a terminal: after each of them it shows the run's screen.
+use Rattle.std.specs.Prelude.{◌≡◌, ℕ, List, [], ◌∷◌}
+use Rattle.bstr.specs.Utf8.{lossy_chars}
+use Rattle.diff_render.specs.Frames.{Agree}
+use Rattle.ports.specs.declared.events.Event.{Event}
+use Rattle.session_core.specs.Next.{next}
+use Rattle.term_model.specs.Obeying.{obeyed}
+use Rattle.term_model.specs.Term.{Term}
+use Rattle.prompt_run.specs.Run.{Run, ran_on, terminal_at}
+
+-- the terminal that took an event's resize, if it was one, and obeyed the event's frame
+abbrev pub obeying : Term → Run → Event → List ℕ → Term
+obeying t r event frame = obeyed (terminal_at r.state.size (next r.state event).size t) (lossy_chars frame)
+
+-- there is one frame for each event, and the terminal that obeys them agrees with the run's screen after each; in the end the terminal
+-- and the run are these
+abbrev pub FramesShow : Term → Run → List Event → List (List ℕ) → Term → Run → Type 0
+FramesShow t r [] [] end last = (end ≡ t) × (last ≡ r)
+FramesShow t r [] (frame ∷ frames) end last = ⊥
+FramesShow t r (event ∷ events) [] end last = ⊥
+FramesShow t r (event ∷ events) (frame ∷ frames) end last =
+    Agree (obeying t r event frame) (ran_on r event).screen × FramesShow (obeying t r event frame) (ran_on r event) events frames end last
