@@ -11,18 +11,18 @@ use Rattle.text_doc.proofs.Walks.{first_found, first_none}
 use Rattle.completers.specs.declared.brackets.Opened.{Opened}
 use Rattle.completers.specs.Pairs.{after_character, unclosed, fault_of, bracket_fault}
 
-enumerate_from_push : (n : ℕ) (xs : List ℕ) (x : ℕ) → enumerate_from n (xs ++ x ∷ []) ≡ enumerate_from n xs ++ (n + length xs, x) ∷ []
-enumerate_from_push n [] x = let e : n ≡ n + 0 = omega arith in ap (λ k. (k, x) ∷ []) e
-enumerate_from_push n (y ∷ ys) x =
-    let e : n + 1 + length ys ≡ n + suc (length ys) = omega arith in
-    ap (λ ps. (n, y) ∷ ps) (enumerate_from_push (n + 1) ys x ∙ ap (λ k. enumerate_from (n + 1) ys ++ (k, x) ∷ []) e)
+pub enumerate_from-append : (n : ℕ) (xs ys : List ℕ) → enumerate_from n (xs ++ ys) ≡ enumerate_from n xs ++ enumerate_from (n + length xs) ys
+enumerate_from-append n [] ys = let e : n ≡ n + 0 = omega arith in ap (λ k. enumerate_from k ys) e
+enumerate_from-append n (x ∷ xs) ys =
+    let e : n + 1 + length xs ≡ n + suc (length xs) = omega arith in
+    ap (λ ps. (n, x) ∷ ps) (enumerate_from-append (n + 1) xs ys ∙ ap (λ k. enumerate_from (n + 1) xs ++ enumerate_from k ys) e)
 
 -- one more character
 pub unclosed_more : (text : List ℕ) (i : ℕ) → i < length text → unclosed (take (i + 1) text) ≡ after_character (unclosed (take i text)) (i, get_or text i 0)
 unclosed_more text i within =
     let size : 0 + length (take i text) ≡ i = omega (arith, length-take i text) in
     ap unclosed (take_more text i 0 within)
-    ∙ ap (fold after_character (Some [])) (enumerate_from_push 0 (take i text) (get_or text i 0) ∙ ap (λ k. enumerate_from 0 (take i text) ++ (k, get_or text i 0) ∷ []) size)
+    ∙ ap (fold after_character (Some [])) (enumerate_from-append 0 (take i text) (get_or text i 0 ∷ []) ∙ ap (λ k. enumerate_from 0 (take i text) ++ (k, get_or text i 0) ∷ []) size)
     ∙ fold_push after_character (Some []) (enumerate_from 0 (take i text)) (i, get_or text i 0)
 
 -- nothing was wrong before the place `i`

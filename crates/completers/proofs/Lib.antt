@@ -9,3 +9,6 @@ pub mod DistinctLemmas
 pub mod ReachLemmas
 pub mod GatheringLemmas
 pub mod LawsOfNumbers
+pub mod PairLemmas
+pub mod BalancedLemmas
+pub mod LawsOfBrackets

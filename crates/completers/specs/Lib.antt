@@ -9,4 +9,5 @@ pub mod Gathered
 pub mod Suggested
 pub mod Numbers
 pub mod Pairs
+pub mod Balanced
 pub mod Verdicts
