@@ -1,0 +1,31 @@
+-- What a contract sees of a batch: its request, its number, its items, and whether it is the last one.
+use Rattle.std.specs.Prelude.{◌≡◌, ℕ, ◌<◌, nat_lt, Bool, Option, None, Some, if◌then◌else◌}
+use Rattle.job_desk.specs.declared.batches.Items.{Items}
+use Rattle.job_desk.specs.Requests.{RequestFields}
+use Rattle.job_desk.specs.Batching.{batch_count, items_of, is_last}
+
+-- a part of the answer to a request
+pub record BatchFields : Type 0 where
+  pub request : RequestFields
+  pub number : ℕ
+  pub items : Items
+  pub last : Bool
+
+-- it is one of the batches that the answer to its request is cut into
+pub record IsBatch (b : BatchFields) : Type 0 where
+  pub number_within : b.number < batch_count b.request
+  pub items_are : b.items ≡ items_of b.request b.number
+  pub last_is : b.last ≡ is_last b.request b.number
+
+-- the batch with this number
+abbrev pub batch_at : RequestFields → ℕ → BatchFields
+batch_at request number = record {
+  request = request;
+  number = number;
+  items = items_of request number;
+  last = is_last request number;
+}
+
+-- the batch with this number; None where the answer to the request has no such batch
+abbrev pub numbered : RequestFields → ℕ → Option BatchFields
+numbered request number = if nat_lt number (batch_count request) then Some (batch_at request number) else None
