@@ -11,5 +11,6 @@ pub mod NarrowCounts
 pub mod RowCounts
 pub mod ScrollLaws
 pub mod Shows
+pub mod SpaceRows
 pub mod WindowLaws
 pub mod WindowRows

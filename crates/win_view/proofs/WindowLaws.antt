@@ -1,30 +1,37 @@
 -- What a window shows: as many rows as it has, each as wide as it, and its cursor among them.
-use Rattle.std.proofs.Common.{◌≡◌, ℕ, ◌-◌, ◌≤◌, Bool, true, false, List, [], ◌∷◌, ◌++◌, length, map, drop, arith, All, length-append, length-take}
+use Rattle.std.proofs.Common.{◌≡◌, ℕ, ◌-◌, ◌≤◌, Bool, true, false, List, [], ◌∷◌, ◌++◌, length, map, replicate, drop, arith, All, length-append, length-take}
 use Rattle.std.specs.List.{flat_map}
 use Rattle.std.proofs.lemmas.List.{length-map, length-replicate}
 use Rattle.std.proofs.lemmas.List.Elements.{All-nil, All-cons, All-head, All-tail, All-append, All-take, All-drop}
+use Rattle.cell_grid.specs.declared.attrs.Attrs.{Attrs}
 use Rattle.cell_grid.specs.declared.cell.Cell.{Cell}
-use Rattle.cell_grid.specs.Cell.{blank}
-use Rattle.cell_grid.specs.Grid.{AllRows, IsRow, blank_rows}
-use Rattle.cell_grid.specs.Row.{IsWhole, blank_row}
+use Rattle.cell_grid.specs.Attrs.{plain}
+use Rattle.cell_grid.specs.Cell.{narrow}
+use Rattle.cell_grid.specs.Grid.{AllRows, IsRow}
+use Rattle.cell_grid.specs.Row.{IsWhole}
 use Rattle.cell_grid.specs.Size.{Extent}
-use Rattle.cell_grid.proofs.GridLemmas.{AllRows-blank_rows, row-blank_row}
 use Rattle.cell_grid.proofs.RowLemmas.{whole-append}
 use Rattle.win_view.specs.declared.contents.Content.{Content}
 use Rattle.win_view.specs.declared.scrolls.Scroll.{Scroll}
 use Rattle.win_view.specs.Contents.{content_rows, rows_by}
 use Rattle.win_view.specs.Greedy.{IsHeld}
 use Rattle.win_view.specs.Rows.{rows_of}
-use Rattle.win_view.specs.Views.{cut_by, filled, shown_rows, window_rows}
+use Rattle.win_view.specs.Views.{cut_by, filled_with, shown_rows, spaces, window_rows, window_rows_with}
 use Rattle.win_view.proofs.ColumnCuts.{length-columns_from, whole-columns_from}
 use Rattle.win_view.proofs.GreedyRows.{held-rows_of}
+use Rattle.win_view.proofs.SpaceRows.{AllRows-spaces, whole-spaces}
 
 -- ---- a row filled up
 
-pub row-filled : (width : ℕ) (row : List Cell) → IsHeld width row → IsRow width (filled width row)
-row-filled width row held = record {
-  long = omega (arith, length-append row (blank_row (width - length row)), length-replicate (width - length row) blank, held.fits);
-  whole = whole-append false row (blank_row (width - length row)) held.whole (row-blank_row (width - length row)).whole;
+row-filled : (behind : Attrs) (width : ℕ) (row : List Cell) → IsHeld width row → IsRow width (filled_with behind width row)
+row-filled behind width row held = record {
+  long = omega (
+    arith,
+    length-append row (spaces behind (width - length row)),
+    length-replicate (width - length row) (narrow 32 behind),
+    held.fits,
+  );
+  whole = whole-append false row (spaces behind (width - length row)) held.whole (whole-spaces behind (width - length row));
 }
 
 -- ---- the rows of the content
@@ -49,11 +56,11 @@ shown-rows false across width (line ∷ lines) some whole =
 
 -- ---- the rows of the window
 
-rows-filled : (wrap : Bool) (across width : ℕ) (rows : List (List Cell)) → All (IsShown wrap across width) rows → AllRows width (map (λ row. filled width (cut_by wrap across width row)) rows)
-rows-filled wrap across width [] shown = tt
-rows-filled wrap across width (row ∷ rows) shown = (
-  row-filled width (cut_by wrap across width row) (All-head (IsShown wrap across width) row rows shown),
-  rows-filled wrap across width rows (All-tail (IsShown wrap across width) row rows shown),
+rows-filled : (behind : Attrs) (wrap : Bool) (across width : ℕ) (rows : List (List Cell)) → All (IsShown wrap across width) rows → AllRows width (map (λ row. filled_with behind width (cut_by wrap across width row)) rows)
+rows-filled behind wrap across width [] shown = tt
+rows-filled behind wrap across width (row ∷ rows) shown = (
+  row-filled behind width (cut_by wrap across width row) (All-head (IsShown wrap across width) row rows shown),
+  rows-filled behind wrap across width rows (All-tail (IsShown wrap across width) row rows shown),
 )
 
 AllRows-append : (cols : ℕ) (above below : List (List Cell)) → AllRows cols above → AllRows cols below → AllRows cols (above ++ below)
@@ -61,23 +68,31 @@ AllRows-append cols [] below first second = second
 AllRows-append cols (row ∷ above) below first second = (first.0, AllRows-append cols above below first.1 second)
 
 -- each row is as wide as the window and whole
-pub AllRows-window_rows : (c : Content) (size : Extent) (scroll : Scroll) → 1 ≤ size.cols → All IsWhole c.lines → AllRows size.cols (window_rows c size scroll)
-AllRows-window_rows c size scroll some whole =
+pub AllRows-window_rows_with : (behind : Attrs) (c : Content) (size : Extent) (scroll : Scroll) → 1 ≤ size.cols → All IsWhole c.lines → AllRows size.cols (window_rows_with behind c size scroll)
+AllRows-window_rows_with behind c size scroll some whole =
     let shown = shown_rows c size scroll in
     let IsSeen : List Cell → Type 0 = IsShown c.wrap scroll.across size.cols in
     let all = shown-rows c.wrap scroll.across size.cols c.lines some whole in
-    AllRows-append size.cols (map (λ row. filled size.cols (cut_by c.wrap scroll.across size.cols row)) shown) (blank_rows (size.rows - length shown) size.cols)
-    (rows-filled c.wrap scroll.across size.cols shown (All-take IsSeen size.rows (drop scroll.down (content_rows c size.cols)) (All-drop IsSeen scroll.down (content_rows c size.cols) all)))
-    (AllRows-blank_rows (size.rows - length shown) size.cols)
+    AllRows-append size.cols (map (λ row. filled_with behind size.cols (cut_by c.wrap scroll.across size.cols row)) shown)
+    (replicate (size.rows - length shown) (spaces behind size.cols))
+    (rows-filled behind c.wrap scroll.across size.cols shown (All-take IsSeen size.rows (drop scroll.down (content_rows c size.cols)) (All-drop IsSeen scroll.down (content_rows c size.cols) all)))
+    (AllRows-spaces behind (size.rows - length shown) size.cols)
+
+pub AllRows-window_rows : (c : Content) (size : Extent) (scroll : Scroll) → 1 ≤ size.cols → All IsWhole c.lines → AllRows size.cols (window_rows c size scroll)
+AllRows-window_rows c size scroll some whole = AllRows-window_rows_with plain c size scroll some whole
 
 -- there are as many as the window has
-pub length-window_rows : (c : Content) (size : Extent) (scroll : Scroll) → length (window_rows c size scroll) ≡ size.rows
-length-window_rows c size scroll =
+pub length-window_rows_with : (behind : Attrs) (c : Content) (size : Extent) (scroll : Scroll) → length (window_rows_with behind c size scroll) ≡ size.rows
+length-window_rows_with behind c size scroll =
     let shown = shown_rows c size scroll in
+    let row_of : List Cell → List Cell = λ row. filled_with behind size.cols (cut_by c.wrap scroll.across size.cols row) in
     omega (
       arith,
-      length-append (map (λ row. filled size.cols (cut_by c.wrap scroll.across size.cols row)) shown) (blank_rows (size.rows - length shown) size.cols),
-      length-map shown (λ row. filled size.cols (cut_by c.wrap scroll.across size.cols row)),
-      length-replicate (size.rows - length shown) (blank_row size.cols),
+      length-append (map row_of shown) (replicate (size.rows - length shown) (spaces behind size.cols)),
+      length-map shown row_of,
+      length-replicate (size.rows - length shown) (spaces behind size.cols),
       length-take size.rows (drop scroll.down (content_rows c size.cols)),
     )
+
+pub length-window_rows : (c : Content) (size : Extent) (scroll : Scroll) → length (window_rows c size scroll) ≡ size.rows
+length-window_rows c size scroll = length-window_rows_with plain c size scroll

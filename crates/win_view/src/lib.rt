@@ -13,6 +13,7 @@ mod places;
 mod rows;
 mod scrolls;
 mod settles;
+mod spaces;
 #[cfg(test)]
 mod tests;
 mod viewports;
@@ -20,9 +21,10 @@ mod views;
 mod wraps;
 
 pub use contents::Content;
+pub use cursors::seen_cursor;
 pub use heights::height;
 pub use rows::count_rows;
 pub use scrolls::{Scroll, scroll_to};
 pub use settles::settle;
-pub use views::{WindowView, view};
+pub use views::{WindowView, view, view_with};
 pub use wraps::wrap;

@@ -25,11 +25,23 @@ fn fragment(alloc: Global, attrs: Attrs, words: &str) -> Result<Fragment, NoMemo
     })
 }
 
+fn underlined() -> Attrs {
+    Attrs {
+        underline: true,
+        ..Attrs::plain()
+    }
+}
+
 // A row of bold characters, and plain ones behind them.
 fn row_of(alloc: Global, strong: &str, plain: &str) -> Result<CellRow, NoMemory> {
+    row_over(alloc, strong, plain, Attrs::plain())
+}
+
+// A row of bold characters, and others with these attributes behind them.
+fn row_over(alloc: Global, strong: &str, others: &str, attrs: Attrs) -> Result<CellRow, NoMemory> {
     let fragments = [
         fragment(alloc, bold(), strong)?,
-        fragment(alloc, Attrs::plain(), plain)?,
+        fragment(alloc, attrs, others)?,
     ];
     let row = cells_of(alloc, &fragments)?;
     Ok(row)
@@ -267,17 +279,28 @@ const SHOWN: [Shown; 13] = [
     (false, (0, 4), (1, 2), (0, 9), &[("", "  ")], (0, 0)),
 ];
 
-fn assert_shown(rt: &(impl Abort + AllocGlobal), shown: &Shown) -> Result<(), Fail> {
+// What is shown over blanks, and over spaces with attributes.
+fn assert_shown(
+    rt: &(impl Abort + AllocGlobal),
+    shown: &Shown,
+    behind: Option<Attrs>,
+) -> Result<(), Fail> {
     let (wrap, (line, cell), (rows, cols), (down, across), wanted, cursor) = *shown;
     let content = content_of(rt.alloc(), &["ab中c ", "x"], line, cell, wrap)?;
     assert!(rt; is_content(&content));
     let size = Size::new(rows, cols).ok_or("size")?;
-    let seen = view(rt.alloc(), &content, size, Scroll { down, across })?;
+    let scroll = Scroll { down, across };
+    let seen = match behind {
+        None => view(rt.alloc(), &content, size, scroll)?,
+        Some(attrs) => view_with(rt.alloc(), &content, size, scroll, attrs)?,
+    };
     assert_eq!(rt; seen.grid.rows() as usize, wanted.len());
     assert_eq!(rt; (seen.row, seen.col), cursor);
+    assert_eq!(rt; seen_cursor(&content, size, scroll), cursor);
+    let attrs = behind.unwrap_or(Attrs::plain());
     let mut row = 0;
-    for (strong, plain) in wanted {
-        let cells = row_of(rt.alloc(), strong, plain)?;
+    for (strong, others) in wanted {
+        let cells = row_over(rt.alloc(), strong, others, attrs)?;
         assert!(rt; row < seen.grid.rows());
         assert!(rt;
             seen.grid.row(row) == cells.as_slice(),
@@ -291,7 +314,8 @@ fn assert_shown(rt: &(impl Abort + AllocGlobal), shown: &Shown) -> Result<(), Fa
 #[test]
 fn views_of_a_window(rt: HostRuntime) -> Result<(), Fail> {
     for shown in &SHOWN {
-        assert_shown(&rt, shown)?;
+        assert_shown(&rt, shown, None)?;
+        assert_shown(&rt, shown, Some(underlined()))?;
     }
     Ok(())
 }

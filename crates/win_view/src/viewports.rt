@@ -1,7 +1,8 @@
 //! A window's grid, which the rows of its content are laid into.
 use crate::first_rows::first_row;
 use crate::narrow_cells::narrowed;
-use cell_grid::{Cell, CellRow, Grid, NoMemory, Size};
+use crate::spaces::grid_of_spaces;
+use cell_grid::{Attrs, Cell, CellRow, Grid, NoMemory, Size};
 use std::alloc::Global;
 
 /// A grid that rows of a content are laid into, one by one.
@@ -16,18 +17,19 @@ pub struct Viewport {
 
 impl Viewport {
     ghost use Rattle.std.specs.Prelude.{◌≡◌, ℕ, ◌<◌, ◌≤◌, ◌++◌, [], ◌∷◌, List, IfOk, IsTrue, ◌↔◌, length, flat_map};
+    ghost use Rattle.cell_grid.specs.declared.attrs.Attrs.{Attrs};
     ghost use Rattle.cell_grid.specs.declared.cell.Cell.{Cell};
     ghost use Rattle.cell_grid.specs.Grid.{columns};
     ghost use Rattle.cell_grid.specs.Row.{IsWhole};
     ghost use Rattle.win_view.specs.Rows.{holdable, rows_of};
     ghost use Rattle.win_view.specs.Showing.{IsShowing};
 
-    /// A viewport of blanks.
-    pub fn new(alloc: Global, size: Size, down: u32) -> Result<Viewport, NoMemory>
-        ensures shows { IfOk result (IsShowing size.rows size.cols down []) }
+    /// A viewport of spaces with these attributes.
+    pub fn new(alloc: Global, size: Size, down: u32, behind: Attrs) -> Result<Viewport, NoMemory>
+        ensures shows { IfOk result (IsShowing behind size.rows size.cols down []) }
         ensures cols { IfOk result (λ viewport. columns viewport.grid ≡ size.cols) }
     {
-        let grid = Grid::blank(alloc, size.rows(), size.cols())?;
+        let grid = grid_of_spaces(alloc, size, behind)?;
         Ok(Viewport {
             grid,
             above: down,
@@ -46,8 +48,8 @@ impl Viewport {
     pub fn show_row(&mut self, cells: &[Cell])
         requires whole { IsWhole cells.now }
         requires fits { length cells.now ≤ columns self.old.grid }
-        ensures shows { (rows cols down : ℕ) (passed : List (List Cell)) → IsShowing rows cols down passed self.old
-            → IsShowing rows cols down (passed ++ cells.now ∷ []) self.new }
+        ensures shows { (behind : Attrs) (rows cols down : ℕ) (passed : List (List Cell)) → IsShowing behind rows cols down passed self.old
+            → IsShowing behind rows cols down (passed ++ cells.now ∷ []) self.new }
         ensures cols { columns self.new.grid ≡ columns self.old.grid }
     {
         if self.above > 0 {
@@ -67,8 +69,8 @@ impl Viewport {
         requires width { 1 ≤ width }
         requires fits { length (holdable width row.now) ≤ width }
         requires cols { width ≤ columns self.old.grid }
-        ensures shows { (rows cols down : ℕ) (passed : List (List Cell)) → IsShowing rows cols down passed self.old
-            → IsShowing rows cols down (passed ++ holdable width row.now ∷ []) self.new }
+        ensures shows { (behind : Attrs) (rows cols down : ℕ) (passed : List (List Cell)) → IsShowing behind rows cols down passed self.old
+            → IsShowing behind rows cols down (passed ++ holdable width row.now ∷ []) self.new }
         ensures cols { columns self.new.grid ≡ columns self.old.grid }
     {
         if width == 1 && !row.is_empty() {
@@ -83,8 +85,8 @@ impl Viewport {
         requires whole { IsWhole cells.now }
         requires width { 1 ≤ width }
         requires cols { width ≤ columns self.old.grid }
-        ensures shows { (rows cols down : ℕ) (passed : List (List Cell)) → IsShowing rows cols down passed self.old
-            → IsShowing rows cols down (passed ++ rows_of width cells.now) self.new }
+        ensures shows { (behind : Attrs) (rows cols down : ℕ) (passed : List (List Cell)) → IsShowing behind rows cols down passed self.old
+            → IsShowing behind rows cols down (passed ++ rows_of width cells.now) self.new }
         ensures cols { columns self.new.grid ≡ columns self.old.grid }
     {
         let mut rest = cells;
@@ -102,8 +104,9 @@ impl Viewport {
     pub fn show_lines(&mut self, lines: &[CellRow], width: usize)
         requires width { 1 ≤ width }
         requires cols { width ≤ columns self.old.grid }
-        ensures { (rows cols down : ℕ) → IsShowing rows cols down [] self.old
-            → IsShowing rows cols down (flat_map (rows_of width) lines.now) self.new }
+        ensures shows { (behind : Attrs) (rows cols down : ℕ) → IsShowing behind rows cols down [] self.old
+            → IsShowing behind rows cols down (flat_map (rows_of width) lines.now) self.new }
+        ensures cols { columns self.new.grid ≡ columns self.old.grid }
     {
         for line in lines {
             if self.is_full() {

@@ -1,12 +1,13 @@
 //! What a window shows of its content.
-ghost use Rattle.std.specs.Prelude.{◌≡◌, IfOk};
+ghost use Rattle.std.specs.Prelude.{◌≡◌, IfOk, length};
+ghost use Rattle.cell_grid.specs.Grid.{columns};
 ghost use Rattle.win_view.specs.Contents.{IsContent};
-ghost use Rattle.win_view.specs.Views.{viewed};
+ghost use Rattle.win_view.specs.Views.{viewed, viewed_with};
 
-use crate::cursors::cursor_place;
+use crate::cursors::seen_cursor;
 use crate::grids::{cut_grid, wrapped_grid};
 use crate::{Content, Scroll};
-use cell_grid::{Grid, NoMemory, Size};
+use cell_grid::{Attrs, Grid, NoMemory, Size};
 use std::alloc::Global;
 
 /// The cells of a window, and the row and the column of its cursor.
@@ -17,7 +18,7 @@ pub struct WindowView {
     pub col: u32,
 }
 
-/// Returns what a window of this size shows at this scroll. Rows behind the content are blank. The cursor's place is that in the
+/// Returns what a window of this size shows at this scroll. Places behind the content are blank. The cursor's place is that in the
 /// content less the scroll, and 0 where the scroll is greater. The rows above the window are counted, and not built.
 pub fn view(
     alloc: Global,
@@ -28,15 +29,29 @@ pub fn view(
     requires { IsContent content.now }
     ensures { IfOk result (λ view. view ≡ viewed content.now size scroll) }
 {
-    let place = cursor_place(content, size.cols());
-    let row = (place.row as u32).saturating_sub(scroll.down);
-    let col = place.col as u32;
+    view_with(alloc, content, size, scroll, Attrs::plain())
+}
+
+/// Returns what a window of this size shows at this scroll, as `view` does. Places behind the content are spaces with the
+/// attributes `behind`.
+pub fn view_with(
+    alloc: Global,
+    content: &Content,
+    size: Size,
+    scroll: Scroll,
+    behind: Attrs,
+) -> Result<WindowView, NoMemory>
+    requires { IsContent content.now }
+    ensures view { IfOk result (λ view. view ≡ viewed_with behind content.now size scroll) }
+    ensures rows { IfOk result (λ view. length view.grid ≡ size.rows) }
+    ensures cols { IfOk result (λ view. columns view.grid ≡ size.cols) }
+{
+    let (row, col) = seen_cursor(content, size, scroll);
     let lines = content.lines.as_slice();
-    if content.wrap {
-        let grid = wrapped_grid(alloc, lines, size, scroll.down)?;
-        return Ok(WindowView { grid, row, col });
-    }
-    let grid = cut_grid(alloc, lines, size, scroll)?;
-    let col = col.saturating_sub(scroll.across);
+    let grid = if content.wrap {
+        wrapped_grid(alloc, lines, size, scroll.down, behind)?
+    } else {
+        cut_grid(alloc, lines, size, scroll, behind)?
+    };
     Ok(WindowView { grid, row, col })
 }

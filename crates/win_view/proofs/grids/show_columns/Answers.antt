@@ -6,22 +6,22 @@ use Rattle.win_view.specs.Views.{columns_from}
 use Rattle.win_view.proofs.Shows.{rows_of_grid, shows_below}
 use Rattle.win_view.proofs.grids.show_columns.Goals as goal
 
-pub returns-then-is_full : goal.returns-then-is_full
-returns-then-is_full c = λ rows cols start.
+pub returns-then-is_full-clause-shows : goal.returns-then-is_full-clause-shows
+returns-then-is_full-clause-shows c = λ behind rows cols start.
     let cut = columns_from c.args.across c.args.width in
     let at = c.loop-line.line-index in
     let lines = c.args.lines.now in
-    let shown = c.loop-line.invariant.shows rows cols start in
+    let shown = c.loop-line.invariant.shows behind rows cols start in
     let full = c.if-is_full.ensures.0 refl in
-    let long = rows_of_grid rows cols 0 (map cut (take at lines)) c.loop-line.viewport shown in
-    subst (λ (come : List (List Cell)). IsShowing rows cols 0 come c.loop-line.viewport)
+    let long = rows_of_grid behind rows cols 0 (map cut (take at lines)) c.loop-line.viewport shown in
+    subst (λ (come : List (List Cell)). IsShowing behind rows cols 0 come c.loop-line.viewport)
     (sym (map-append cut (take at lines) (drop at lines)) ∙ ap (map cut) (take-append-drop at lines))
-    (shows_below rows cols 0 (map cut (take at lines)) (map cut (drop at lines)) c.loop-line.viewport shown full.0 (omega (arith, full.1, long)))
+    (shows_below behind rows cols 0 (map cut (take at lines)) (map cut (drop at lines)) c.loop-line.viewport shown full.0 (omega (arith, full.1, long)))
 
 pub loop-line-preserved : goal.loop-line-preserved
 loop-line-preserved c = record {
-  cols = omega (arith, c.show_row.ensures.cols, c.loop-line.invariant.cols);
-  shows = λ rows cols start.
+  cols = c.show_row.ensures.cols ∙ c.loop-line.invariant.cols;
+  shows = λ behind rows cols start.
       let cut = columns_from c.args.across c.args.width in
       let at = c.loop-line.line-index in
       let lines = c.args.lines.now in
@@ -30,7 +30,7 @@ loop-line-preserved c = record {
       let shown : c.as_slice-in-loop-line.result.now ≡ cut (get_or lines at line) =
       c.as_slice-in-loop-line.ensures.value ∙ c.in_ok-cells.ensures.value ∙ ap cut (c.as_slice.ensures.value ∙ c.line-item.is)
       in
-      subst (λ (come : List (List Cell)). IsShowing rows cols 0 come c.show_row.new.self)
+      subst (λ (come : List (List Cell)). IsShowing behind rows cols 0 come c.show_row.new.self)
       (ap (λ (cells : List Cell). before ++ cells ∷ []) shown ∙ sym (map_more cut lines at line c.loop-line-test.true))
-      (c.show_row.ensures.shows rows cols 0 before (c.loop-line.invariant.shows rows cols start));
+      (c.show_row.ensures.shows behind rows cols 0 before (c.loop-line.invariant.shows behind rows cols start));
 }
