@@ -3,3 +3,4 @@ pub mod Orders
 pub mod Stages
 pub mod Parts
 pub mod Alike
+pub mod OneDivision

@@ -36,7 +36,7 @@ weights_are parts all =
       small = small_greatest (weights_of parts) (λ i h. omega (arith, each i (omega arith), (all i nothing (omega arith)).weight_in));
     }
 
-sum_le : (xs ys : List ℕ) → length xs ≡ length ys → ((i : ℕ) → i < length xs → get_or xs i 0 ≤ get_or ys i 0) → sum xs ≤ sum ys
+pub sum_le : (xs ys : List ℕ) → length xs ≡ length ys → ((i : ℕ) → i < length xs → get_or xs i 0 ≤ get_or ys i 0) → sum xs ≤ sum ys
 sum_le [] [] e h = omega arith
 sum_le [] (y ∷ ys) e h = omega arith
 sum_le (x ∷ xs) [] e h = absurd (omega arith)

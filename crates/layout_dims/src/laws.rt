@@ -1,9 +1,9 @@
 //! What the order of turns and the division mean, as laws over their definitions. The functions do nothing.
 
-ghost use Rattle.std.specs.Prelude.{◌≡◌, ◌==◌, ℕ, ◌+◌, ◌*◌, ◌<◌, ◌≤◌, List, length, slice_index, count_by};
-ghost use Rattle.layout_dims.specs.Numbers.{greatest};
+ghost use Rattle.std.specs.Prelude.{◌≡◌, ◌==◌, ℕ, ◌+◌, ◌*◌, ◌<◌, ◌≤◌, Bool, List, All, sum, length, slice_index, count_by};
+ghost use Rattle.layout_dims.specs.Numbers.{Numbers, IsDimension, greatest};
 ghost use Rattle.layout_dims.specs.Turns.{round_of, turn_order, AreWeights};
-ghost use Rattle.layout_dims.specs.Division.{IsStage};
+ghost use Rattle.layout_dims.specs.Division.{IsStage, Division, minima_of};
 ghost use Rattle.layout_dims.specs.Fairness.{AreEqual, IsFair};
 
 /// A child's next turn stands in a later round, so no round has two of its turns.
@@ -29,4 +29,16 @@ pub fn equal_weights_share_alike()
     ensures { (weights starts caps : List ℕ) (from goal T : ℕ) (sizes : List ℕ)
         → AreWeights weights → AreEqual weights → IsStage weights starts caps from goal T sizes
         → IsFair starts caps sizes }
+{}
+
+/// A room has one division among the parts: the definition leaves no choice.
+pub fn a_room_has_one_division()
+    ensures { (parts : List Numbers) (room : ℕ) (done : Bool) (one other : List ℕ)
+        → Division parts room done one → Division parts room done other → one ≡ other }
+{}
+
+/// Where a room is divided, it is enough for the minima of the parts.
+pub fn a_divided_room_is_enough()
+    ensures { (parts : List Numbers) (room : ℕ) (done : Bool) (sizes : List ℕ) → All IsDimension parts
+        → Division parts room done sizes → sum (minima_of parts) ≤ room }
 {}
