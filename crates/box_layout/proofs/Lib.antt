@@ -1,0 +1,14 @@
+pub mod Adding
+pub mod Asking
+pub mod Few
+pub mod FloatAreas
+pub mod Lists
+pub mod Measured
+pub mod Mending
+pub mod OnePlacing
+pub mod PaintedRows
+pub mod Placing
+pub mod Ranges
+pub mod Turns
+pub mod PartLaws
+pub mod WindowsInside

@@ -1,0 +1,11 @@
+pub mod Adding
+pub mod Areas
+pub mod Asked
+pub mod Boxes
+pub mod Children
+pub mod Floats
+pub mod Measures
+pub mod Painting
+pub mod Panes
+pub mod Parts
+pub mod Placed

@@ -1,0 +1,50 @@
+//! One row of what windows show at their places.
+ghost use Rattle.std.specs.Prelude.{◌≡◌, IfOk, length};
+ghost use Rattle.box_layout.specs.Areas.{IsInside};
+ghost use Rattle.box_layout.specs.Painting.{shown_cells};
+ghost use Rattle.box_layout.specs.Placed.{AllInside, area_of};
+
+use crate::Placed;
+use crate::areas::Area;
+use crate::paints::paint_over;
+use cell_grid::{Cell, Grid, NoMemory, Size};
+use std::alloc::Global;
+
+/// The cells that the first row of an area shows. A window inside the area that is on this row begins there, so of its view one
+/// row is built: the first row of a view is the same whatever the view's height.
+pub fn shown_row(alloc: Global, placed: &[Placed], area: &Area) -> Result<Vec<Cell>, NoMemory>
+    requires { AllInside area.now placed.now }
+    ensures { IfOk result (λ cells. cells.items ≡ shown_cells placed.now area.now.row area.now.col area.now.size.cols) }
+{
+    let first = Area {
+        row: area.row,
+        col: area.col,
+        size: one_row(&area.size),
+    };
+    let mut grid = Grid::blank(alloc, 1, area.size.cols())?;
+    for one in placed {
+        if one.row == area.row {
+            prove!(one.size.rows() > 0);
+            let cut = Placed {
+                pane: one.pane,
+                scroll: one.scroll,
+                row: one.row,
+                col: one.col,
+                size: one_row(&one.size),
+            };
+            paint_over(alloc, &mut grid, &first, &cut)?;
+        }
+    }
+    let cells = Vec::from_slice(alloc, grid.row(0))?;
+    Ok(cells)
+}
+
+/// One row of as many columns.
+fn one_row(size: &Size) -> Size
+    ensures { result ≡ record { rows = 1; cols = size.now.cols } }
+{
+    match Size::new(1, size.cols()) {
+        Some(row) => row,
+        None => unreachable!(),
+    }
+}
