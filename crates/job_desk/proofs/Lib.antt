@@ -1,1 +1,5 @@
 mod DeskLemmas
+mod LetterLists
+mod MailSteps
+mod WorkerLemmas
+mod WorkerLawLemmas

@@ -1,5 +1,6 @@
 -- The state of a desk, and what each call makes of it.
 use Rattle.std.specs.Prelude.{◌≡◌, ℕ, ◌+◌, ◌≤◌, ◌==◌, Bool, true, false, not, ◌&&◌, nat_lt, Option, None, Some, IfSome, if◌then◌else◌}
+use Rattle.std.specs.Option.{is_none}
 use Rattle.job_desk.specs.declared.desks.Posted.{Posted}
 use Rattle.job_desk.specs.declared.desks.Posted.TheVariants.{Placed, Replaced, Refused}
 use Rattle.job_desk.specs.Requests.{RequestFields}
@@ -25,6 +26,10 @@ pub record IsDesk (d : DeskFields) : Type 0 where
   pub balance : d.posted ≡ d.taken + d.replaced + full d.slot
   pub bounded : d.posted ≤ d.greatest
   pub live_within : IfSome d.live (λ id. id ≤ d.greatest)
+
+-- of requests as many were posted as were taken and replaced and are in the slot, which is one at most
+abbrev pub AreBalanced : ℕ × ℕ × ℕ → Type 0
+AreBalanced (posted, taken, replaced) = (waiting : ℕ) × (waiting ≤ 1) × (posted ≡ taken + replaced + waiting)
 
 -- a desk at which nothing was posted
 abbrev pub new_desk : DeskFields
@@ -72,3 +77,7 @@ is_id (Some live) id = live == id
 -- whether a number is the live one of a desk that is not closed
 abbrev pub is_live : DeskFields → ℕ → Bool
 is_live d id = is_id d.live id && not d.closed
+
+-- whether the slot is empty and the desk is not closed
+abbrev pub is_idle : DeskFields → Bool
+is_idle d = is_none d.slot && not d.closed

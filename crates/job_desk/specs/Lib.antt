@@ -4,3 +4,9 @@ pub mod Parts
 pub mod Batches
 pub mod Desks
 pub mod Laws
+pub mod Letters
+pub mod Mailbox
+pub mod Ends
+pub mod Posts
+pub mod Answering
+pub mod WorkerLaws

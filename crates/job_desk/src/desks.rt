@@ -1,6 +1,6 @@
 //! The state of a desk. A clause sees it as its fields.
 ghost use Rattle.std.specs.Prelude.{◌≡◌};
-ghost use Rattle.job_desk.specs.Desks.{IsDesk, new_desk, after_post, post_answer, after_cancel, after_take, after_close, is_live};
+ghost use Rattle.job_desk.specs.Desks.{IsDesk, new_desk, after_post, post_answer, after_cancel, after_take, after_close, is_live, is_idle};
 
 use crate::Request;
 use std::marker::Model;
@@ -127,6 +127,13 @@ impl DeskState {
         ensures { result ≡ self.now.closed }
     {
         self.closed
+    }
+
+    /// Returns whether nothing is to be taken: the slot is empty and the desk is not closed.
+    pub fn is_idle(&self) -> bool
+        ensures { result ≡ is_idle self.now }
+    {
+        self.slot.is_none() && !self.closed
     }
 
     /// Returns how many requests were put in the slot, how many of them were taken, and how many were handed back, for

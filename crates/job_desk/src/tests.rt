@@ -42,7 +42,7 @@ fn tools(alloc: Global, count: usize) -> Result<Arc<Tools>, Fail> {
     Ok(Arc::new(alloc, tools)?)
 }
 
-fn request(
+pub(crate) fn request(
     rt: &impl Abort,
     alloc: Global,
     id: u64,

@@ -1,0 +1,174 @@
+//! Two threads that send through one mailbox: what is taken of each is what it sent, in whatever order the threads run.
+ghost use Rattle.std.specs.Prelude.{◌≡◌, [], IfOk};
+
+use crate::{Letter, Mail, MailEnd, MailEnds, MailSender, NoMemory, mailbox};
+use std::alloc::Global;
+use std::snapshot::Snapshot;
+use std::sync::Wait;
+use std::test::Fail;
+use std::thread;
+use std::thread::{Promise, PromisedHandle, Threads};
+use text_doc::Bytes;
+
+/// More ticks than a mailbox holds letters.
+const TICKS: u64 = 300;
+
+/// A thread gives back the sender that it was given.
+#[derive(Drop)]
+struct SameSender(Snapshot<MailSender>);
+
+impl Promise<MailSender> for SameSender {
+    ghost kept_by = { λ p sender. (sender.room ≡ p.0.value.room) × (sender.number ≡ p.0.value.number) };
+}
+
+/// Sends the ticks 0, 1, 2 and so on, and `Gone`.
+fn send_ticks<R: Wait>(rt: &R, mut sender: MailSender) -> MailSender
+    requires { sender.sent ≡ [] }
+    ensures { (result.room ≡ sender.room) × (result.number ≡ sender.number) }
+{
+    for moment in 0..TICKS {
+        sender.send(rt, Letter::Tick(moment));
+    }
+    sender.send(rt, Letter::Gone);
+    sender
+}
+
+/// Sends these pieces, `InputEnd` and `Gone`.
+fn send_input<R: Wait>(rt: &R, mut sender: MailSender, pieces: [Bytes; 3]) -> MailSender
+    requires { sender.sent ≡ [] }
+    ensures { (result.room ≡ sender.room) × (result.number ≡ sender.number) }
+{
+    let [first, second, third] = pieces;
+    sender.send(rt, Letter::Piece(first));
+    sender.send(rt, Letter::Piece(second));
+    sender.send(rt, Letter::Piece(third));
+    sender.send(rt, Letter::InputEnd);
+    sender.send(rt, Letter::Gone);
+    sender
+}
+
+fn start_ticks<R: Threads + Wait + Copy + Send + Sync + 'static>(
+    rt: R,
+    sender: MailSender,
+) -> Result<PromisedHandle<MailSender, SameSender>, Fail>
+    requires { sender.sent ≡ [] }
+    ensures { IfOk result (λ handle. (handle.promise.0.value.room ≡ sender.room) × (handle.promise.0.value.number ≡ sender.number)) }
+{
+    let promise = SameSender(Snapshot::of(&sender));
+    match thread::spawn_with(
+        &rt,
+        promise,
+        move || -> MailSender
+            requires { sender.sent ≡ [] }
+            ensures { (result.room ≡ sender.room) × (result.number ≡ sender.number) }
+        { send_ticks(&rt, sender) },
+    ) {
+        Ok(handle) => Ok(handle),
+        Err(_) => Err("no thread for the ticks".into()),
+    }
+}
+
+fn start_input<R: Threads + Wait + Copy + Send + Sync + 'static>(
+    rt: R,
+    alloc: Global,
+    sender: MailSender,
+) -> Result<PromisedHandle<MailSender, SameSender>, Fail>
+    requires { sender.sent ≡ [] }
+    ensures { IfOk result (λ handle. (handle.promise.0.value.room ≡ sender.room) × (handle.promise.0.value.number ≡ sender.number)) }
+{
+    let first = Bytes::from_slice(alloc, b"a")?;
+    let second = Bytes::from_slice(alloc, b"bc")?;
+    let third = Bytes::from_slice(alloc, b"d")?;
+    let pieces = [first, second, third];
+    let promise = SameSender(Snapshot::of(&sender));
+    match thread::spawn_with(
+        &rt,
+        promise,
+        move || -> MailSender
+            requires { sender.sent ≡ [] }
+            ensures { (result.room ≡ sender.room) × (result.number ≡ sender.number) }
+        { send_input(&rt, sender, pieces) },
+    ) {
+        Ok(handle) => Ok(handle),
+        Err(_) => Err("no thread for the input".into()),
+    }
+}
+
+/// Takes mails until as many senders are gone.
+fn take_all<R: Wait>(
+    rt: &R,
+    alloc: Global,
+    end: &mut MailEnd,
+    senders: usize,
+) -> Result<Vec<Mail>, NoMemory>
+    ensures { end.new.room ≡ end.old.room }
+{
+    let mut mails = Vec::new(alloc);
+    let mut gone = 0;
+    for _ in rt.forever() {
+        if gone >= senders {
+            break;
+        }
+        let mail = end.take(rt);
+        if matches!(mail.letter, Letter::Gone) {
+            gone += 1;
+        }
+        mails.push(mail)?;
+    }
+    Ok(mails)
+}
+
+/// A number for each letter that these threads send.
+fn code(letter: &Letter) -> u64 {
+    match letter {
+        Letter::Tick(moment) => *moment,
+        Letter::Piece(bytes) => match bytes.as_slice().first() {
+            Some(byte) => 1000 + u64::from(*byte),
+            None => 1000,
+        },
+        Letter::InputEnd => 2000,
+        Letter::Gone => 3000,
+        _ => 4000,
+    }
+}
+
+/// The numbers of the letters of one sender, in the order in which they were taken.
+fn codes(alloc: Global, mails: &[Mail], sender: u32) -> Result<Vec<u64>, NoMemory> {
+    let mut codes = Vec::new(alloc);
+    for mail in mails {
+        if mail.sender == sender {
+            codes.push(code(&mail.letter))?;
+        }
+    }
+    Ok(codes)
+}
+
+#[test]
+fn letters_come_in_order(rt: HostRuntime) -> Result<(), Fail> {
+    let alloc = rt.alloc();
+    let MailEnds {
+        reader,
+        ticker,
+        complete: _complete,
+        suggest: _suggest,
+        check: _check,
+        mut end,
+    } = mailbox(alloc)?;
+    let input = start_input(rt, alloc, reader)?;
+    let ticks = start_ticks(rt, ticker)?;
+    let mails = take_all(&rt, alloc, &mut end, 2)?;
+    end.meet(input.join(&rt));
+    end.meet(ticks.join(&rt));
+    let mut expected = Vec::new(alloc);
+    for moment in 0..TICKS {
+        expected.push(moment)?;
+    }
+    expected.push(3000)?;
+    let input = codes(alloc, mails.as_slice(), 0)?;
+    let pieces = [1097, 1098, 1100, 2000, 3000];
+    assert_eq!(rt; input.as_slice(), pieces.as_slice());
+    let ticks = codes(alloc, mails.as_slice(), 1)?;
+    assert_eq!(rt; ticks.as_slice(), expected.as_slice());
+    assert_eq!(rt; mails.len(), input.len() + ticks.len());
+    Ok(())
+}
