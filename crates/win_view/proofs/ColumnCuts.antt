@@ -1,6 +1,6 @@
 -- The columns of a line that a window shows: they are whole, and how they are written.
 use Prim.Native.Nat.{zero, suc}
-use Rattle.std.proofs.Common.{◌≡◌, ℕ, ◌-◌, ◌≤◌, ◌<◌, ◌⊎◌, min, inl, inr, true, false, List, [], ◌∷◌, length, get_or, set, take, drop, refl, sym, ap, ◌∙◌, arith, length-take}
+use Rattle.std.proofs.Common.{◌≡◌, ℕ, ◌-◌, ◌≤◌, ◌<◌, ◌⊎◌, min, inl, inr, Bool, true, false, List, [], ◌∷◌, ◌++◌, length, get_or, take, drop, refl, sym, ap, ◌∙◌, arith, length-take}
 use Rattle.std.proofs.lemmas.Bool.{cases_lt}
 use Rattle.std.proofs.lemmas.List.{drop_all, take_all, take_min, get_or_default}
 use Rattle.cell_grid.specs.declared.attrs.Attrs.{Attrs}
@@ -10,23 +10,39 @@ use Rattle.cell_grid.specs.Cell.{blank, is_wide}
 use Rattle.cell_grid.specs.Row.{IsWholeAfter, IsWhole}
 use Rattle.win_view.specs.Views.{attrs_of, columns_from, half_of, spaced, spaced_end, spaced_start}
 
--- ---- the last cell is written
+-- ---- a half at either end
 
-spaced_end-set : (cells : List Cell) (last : ℕ) (cell : Cell) → suc last ≡ length cells → cell ≡ get_or cells last cell → set cells last (spaced cell) ≡ spaced_end cells
-spaced_end-set [] last cell e f = absurd (omega arith)
-spaced_end-set (first ∷ []) zero cell e f = ap (λ c. spaced c ∷ []) f
-spaced_end-set (first ∷ []) (suc last) cell e f = absurd (omega arith)
-spaced_end-set (first ∷ next ∷ rest) zero cell e f = absurd (omega arith)
-spaced_end-set (first ∷ next ∷ rest) (suc last) cell e f = ap (λ cells. first ∷ cells) (spaced_end-set (next ∷ rest) last cell (omega arith) f)
+-- a Tail at the start is a half, and the cells behind it are cut by themselves
+pub spaced_tail : (cells : List Cell) (cell : Cell) (attrs : Attrs) → 1 ≤ length cells → cell ≡ get_or cells 0 cell → cell ≡ Tail → spaced_end (spaced_start attrs cells) ≡ half_of attrs ∷ spaced_end (drop 1 cells)
+spaced_tail [] cell attrs some is tail = absurd (omega arith)
+spaced_tail (Lead text columns own ∷ cells) cell attrs some is tail = cc
+spaced_tail (Tail ∷ []) cell attrs some is tail = refl
+spaced_tail (Tail ∷ next ∷ cells) cell attrs some is tail = refl
 
-pub spaced_end-wide : (cells : List Cell) (last : ℕ) (cell other half : Cell) (attrs : Attrs) → suc last ≡ length cells → cell ≡ get_or cells last cell → true ≡ is_wide (get_or cells last cell) → attrs ≡ attrs_of (get_or cells last other) → half ≡ half_of attrs → set cells last half ≡ spaced_end cells
-spaced_end-wide cells last cell other half attrs e f wide own is =
-    let same : attrs ≡ attrs_of cell = own ∙ ap attrs_of (get_or_default cells last other cell (omega arith) ∙ sym f) in
-    ap (set cells last) (is ∙ ap half_of same) ∙ rw (ap is_wide f ∙ sym wide) at (spaced_end-set cells last cell e f)
+-- a wide Lead at the end is a half
+pub spaced_end-wide : (cells front : List Cell) (last : ℕ) (cell other half : Cell) (attrs : Attrs) → suc last ≡ length cells → front ≡ take last cells → cell ≡ get_or cells last cell → true ≡ is_wide cell → other ≡ get_or cells last other → attrs ≡ attrs_of other → half ≡ half_of attrs → spaced_end cells ≡ front ++ half ∷ []
+spaced_end-wide [] front last cell other half attrs long is f wide g own h = absurd (omega arith)
+spaced_end-wide (first ∷ []) front zero cell other half attrs long is f wide g own h =
+    rw (sym (wide ∙ ap is_wide f)) (sym (ap (λ (one : Cell). front ++ one ∷ []) (h ∙ ap half_of (own ∙ ap attrs_of g)) ∙ ap (λ (before : List Cell). before ++ half_of (attrs_of first) ∷ []) is))
+spaced_end-wide (first ∷ []) front (suc last) cell other half attrs long is f wide g own h = absurd (omega arith)
+spaced_end-wide (first ∷ next ∷ cells) front zero cell other half attrs long is f wide g own h = absurd (omega arith)
+spaced_end-wide (first ∷ next ∷ cells) front (suc last) cell other half attrs long is f wide g own h =
+    ap (λ (rest : List Cell). first ∷ rest) (spaced_end-wide (next ∷ cells) (take last (next ∷ cells)) last cell other half attrs (omega arith) refl f wide g own h)
+    ∙ ap (λ (before : List Cell). before ++ half ∷ []) (sym is)
 
-pub spaced_end-other : (cells : List Cell) (last : ℕ) (cell : Cell) → suc last ≡ length cells → cell ≡ get_or cells last cell → false ≡ is_wide (get_or cells last cell) → cells ≡ spaced_end cells
+-- the cells before it are whole
+pub whole-before : (after : Bool) (front : List Cell) (attrs : Attrs) → IsWholeAfter after (front ++ half_of attrs ∷ []) → IsWholeAfter after front
+whole-before false [] attrs whole = tt
+whole-before true [] attrs whole = whole
+whole-before false (Lead text columns own ∷ front) attrs whole =
+    elim whole [ inl one ↦ inl (one.0, whole-before false front attrs one.1) | inr two ↦ inr (two.0, whole-before true front attrs two.1) ]
+whole-before true (Lead text columns own ∷ front) attrs whole = absurd whole
+whole-before false (Tail ∷ front) attrs whole = absurd whole
+whole-before true (Tail ∷ front) attrs whole = whole-before false front attrs whole
+
+pub spaced_end-other : (cells : List Cell) (last : ℕ) (cell : Cell) → suc last ≡ length cells → cell ≡ get_or cells last cell → false ≡ is_wide cell → cells ≡ spaced_end cells
 spaced_end-other [] last cell e f other = refl
-spaced_end-other (first ∷ []) zero cell e f other = rw (sym other) refl
+spaced_end-other (first ∷ []) zero cell e f other = rw (sym (other ∙ ap is_wide f)) refl
 spaced_end-other (first ∷ []) (suc last) cell e f other = absurd (omega arith)
 spaced_end-other (first ∷ next ∷ rest) zero cell e f other = absurd (omega arith)
 spaced_end-other (first ∷ next ∷ rest) (suc last) cell e f other = ap (λ cells. first ∷ cells) (spaced_end-other (next ∷ rest) last cell (omega arith) f other)
@@ -60,7 +76,7 @@ nothing width start count across attrs own line shown past behind is =
     ∙ sym (ap (λ (cells : List Cell). spaced_end (take width (spaced_start own cells))) (drop_all across line behind) ∙ ap spaced_end (take_all width [] (omega arith)))
 
 -- from the first column on
-pub columns_from-first : (across width start count : ℕ) (attrs : Attrs) (line shown : List Cell) → IsWhole line → start ≡ min across (length line) → start ≡ 0 → count ≡ min width (length (drop start line)) → shown ≡ take count (drop start line) → spaced_end (spaced_start attrs shown) ≡ columns_from across width line
+columns_from-first : (across width start count : ℕ) (attrs : Attrs) (line shown : List Cell) → IsWhole line → start ≡ min across (length line) → start ≡ 0 → count ≡ min width (length (drop start line)) → shown ≡ take count (drop start line) → spaced_end (spaced_start attrs shown) ≡ columns_from across width line
 columns_from-first across width start count attrs [] shown whole begins first many is =
     nothing width start count across attrs (attrs_of blank) [] shown (omega arith) (omega arith) is
 columns_from-first across width start count attrs (cell ∷ line) shown whole begins first many is =
@@ -73,7 +89,7 @@ columns_from-first across width start count attrs (cell ∷ line) shown whole be
     ∙ ap (λ (n : ℕ). spaced_end (take width (spaced_start own (at n)))) (sym all)
 
 -- from a later one on
-pub columns_from-later : (across width start count : ℕ) (line shown : List Cell) (before : Cell) → start ≡ min across (length line) → 0 < start → before ≡ get_or line (start - 1) before → count ≡ min width (length (drop start line)) → shown ≡ take count (drop start line) → spaced_end (spaced_start (attrs_of before) shown) ≡ columns_from across width line
+columns_from-later : (across width start count : ℕ) (line shown : List Cell) (before : Cell) → start ≡ min across (length line) → 0 < start → before ≡ get_or line (start - 1) before → count ≡ min width (length (drop start line)) → shown ≡ take count (drop start line) → spaced_end (spaced_start (attrs_of before) shown) ≡ columns_from across width line
 columns_from-later across width start count line shown before begins later is_before many is =
     let own = attrs_of (get_or line (across - 1) blank) in
     elim (cases_lt (length line) across) [
@@ -89,12 +105,31 @@ columns_from-later across width start count line shown before begins later is_be
           ∙ ap spaced_end (sym (take-spaced_start width own (drop across line)))
     ]
 
+-- from any on
+pub columns_from-cut : (across width start count : ℕ) (attrs : Attrs) (line shown : List Cell) → IsWhole line → start ≡ min across (length line) → (0 < start → attrs ≡ attrs_of (get_or line (start - 1) blank)) → count ≡ min width (length (drop start line)) → shown ≡ take count (drop start line) → spaced_end (spaced_start attrs shown) ≡ columns_from across width line
+columns_from-cut across width start count attrs line shown whole begins own many is =
+    elim (cases_lt 0 start) [
+      | inl later ↦
+          let before = get_or line (start - 1) blank in
+          ap (λ (those : Attrs). spaced_end (spaced_start those shown)) (own later)
+          ∙ columns_from-later across width start count line shown before begins later (get_or_default line (start - 1) blank before (omega arith)) many is
+      | inr first ↦ columns_from-first across width start count attrs line shown whole begins (omega arith) many is
+    ]
+
 -- ---- they are whole, and as many as fit
 
 length-spaced_end : (cells : List Cell) → length (spaced_end cells) ≡ length cells
 length-spaced_end [] = refl
 length-spaced_end (cell ∷ []) = refl
 length-spaced_end (cell ∷ next ∷ rest) = ap suc (length-spaced_end (next ∷ rest))
+
+length-spaced_start : (attrs : Attrs) (cells : List Cell) → length (spaced_start attrs cells) ≡ length cells
+length-spaced_start attrs [] = refl
+length-spaced_start attrs (Lead text columns own ∷ cells) = refl
+length-spaced_start attrs (Tail ∷ cells) = refl
+
+pub length-spaced : (attrs : Attrs) (cells : List Cell) → length (spaced_end (spaced_start attrs cells)) ≡ length cells
+length-spaced attrs cells = length-spaced_end (spaced_start attrs cells) ∙ length-spaced_start attrs cells
 
 pub length-columns_from : (across width : ℕ) (line : List Cell) → length (columns_from across width line) ≤ width
 length-columns_from across width line =

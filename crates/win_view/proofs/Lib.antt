@@ -1,3 +1,4 @@
+pub mod Blits
 pub mod CellLaws
 pub mod ColumnCuts
 pub mod CursorLaws
@@ -6,11 +7,12 @@ pub mod Flows
 pub mod GreedyRows
 pub mod HeldRows
 pub mod Holds
+pub mod Laid
+pub mod LaidRows
 pub mod LinePlaces
 pub mod NarrowCounts
 pub mod RowCounts
 pub mod ScrollLaws
-pub mod Shows
 pub mod SpaceRows
 pub mod WindowLaws
 pub mod WindowRows

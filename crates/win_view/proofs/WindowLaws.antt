@@ -1,7 +1,7 @@
 -- What a window shows: as many rows as it has, each as wide as it, and its cursor among them.
-use Rattle.std.proofs.Common.{◌≡◌, ℕ, ◌-◌, ◌≤◌, Bool, true, false, List, [], ◌∷◌, ◌++◌, length, map, replicate, drop, arith, All, length-append, length-take}
+use Rattle.std.proofs.Common.{◌≡◌, ℕ, ◌+◌, ◌-◌, ◌≤◌, ◌<◌, Bool, true, false, List, [], ◌∷◌, ◌++◌, length, get_or, map, replicate, take, drop, sym, ap, subst, ◌∙◌, arith, All, length-append, length-take}
 use Rattle.std.specs.List.{flat_map}
-use Rattle.std.proofs.lemmas.List.{length-map, length-replicate}
+use Rattle.std.proofs.lemmas.List.{length-map, length-replicate, take_more}
 use Rattle.std.proofs.lemmas.List.Elements.{All-nil, All-cons, All-head, All-tail, All-append, All-take, All-drop}
 use Rattle.cell_grid.specs.declared.attrs.Attrs.{Attrs}
 use Rattle.cell_grid.specs.declared.cell.Cell.{Cell}
@@ -16,7 +16,7 @@ use Rattle.win_view.specs.declared.scrolls.Scroll.{Scroll}
 use Rattle.win_view.specs.Contents.{content_rows, rows_by}
 use Rattle.win_view.specs.Greedy.{IsHeld}
 use Rattle.win_view.specs.Rows.{rows_of}
-use Rattle.win_view.specs.Views.{cut_by, filled_with, shown_rows, spaces, window_rows, window_rows_with}
+use Rattle.win_view.specs.Views.{columns_from, cut_by, filled_with, shown_rows, spaces, window_rows, window_rows_with}
 use Rattle.win_view.proofs.ColumnCuts.{length-columns_from, whole-columns_from}
 use Rattle.win_view.proofs.GreedyRows.{held-rows_of}
 use Rattle.win_view.proofs.SpaceRows.{AllRows-spaces, whole-spaces}
@@ -36,11 +36,17 @@ row-filled behind width row held = record {
 
 -- ---- the rows of the content
 
-held-lines : (width : ℕ) (lines : List (List Cell)) → 1 ≤ width → All IsWhole lines → All (IsHeld width) (flat_map (rows_of width) lines)
+pub held-lines : (width : ℕ) (lines : List (List Cell)) → 1 ≤ width → All IsWhole lines → All (IsHeld width) (flat_map (rows_of width) lines)
 held-lines width [] some whole = All-nil (IsHeld width)
 held-lines width (line ∷ lines) some whole =
     All-append (IsHeld width) (rows_of width line) (flat_map (rows_of width) lines)
     (held-rows_of width line some (All-head IsWhole line lines whole)) (held-lines width lines some (All-tail IsWhole line lines whole))
+
+-- one line more
+pub whole-more : (at : ℕ) (lines : List (List Cell)) (line : List Cell) → at < length lines → line ≡ get_or lines at line → All IsWhole (take at lines) → IsWhole line → All IsWhole (take (at + 1) lines)
+whole-more at lines line within is before whole =
+    subst (λ (front : List (List Cell)). All IsWhole front) (ap (λ (one : List Cell). take at lines ++ one ∷ []) is ∙ sym (take_more lines at line within))
+    (All-append IsWhole (take at lines) (line ∷ []) before (All-cons IsWhole line [] whole (All-nil IsWhole)))
 
 -- a row as the window shows it
 abbrev pub IsShown : Bool → ℕ → ℕ → List Cell → Type 0
@@ -54,6 +60,14 @@ shown-rows false across width (line ∷ lines) some whole =
     (record { whole = whole-columns_from across width line (All-head IsWhole line lines whole); fits = length-columns_from across width line })
     (shown-rows false across width lines some (All-tail IsWhole line lines whole))
 
+-- the columns of lines
+pub held-columns : (across width : ℕ) (lines : List (List Cell)) → All IsWhole lines → All (IsHeld width) (map (columns_from across width) lines)
+held-columns across width [] whole = All-nil (IsHeld width)
+held-columns across width (line ∷ lines) whole =
+    All-cons (IsHeld width) (columns_from across width line) (map (columns_from across width) lines)
+    (record { whole = whole-columns_from across width line (All-head IsWhole line lines whole); fits = length-columns_from across width line })
+    (held-columns across width lines (All-tail IsWhole line lines whole))
+
 -- ---- the rows of the window
 
 rows-filled : (behind : Attrs) (wrap : Bool) (across width : ℕ) (rows : List (List Cell)) → All (IsShown wrap across width) rows → AllRows width (map (λ row. filled_with behind width (cut_by wrap across width row)) rows)
@@ -66,6 +80,11 @@ rows-filled behind wrap across width (row ∷ rows) shown = (
 AllRows-append : (cols : ℕ) (above below : List (List Cell)) → AllRows cols above → AllRows cols below → AllRows cols (above ++ below)
 AllRows-append cols [] below first second = second
 AllRows-append cols (row ∷ above) below first second = (first.0, AllRows-append cols above below first.1 second)
+
+pub AllRows-filled : (behind : Attrs) (rows cols : ℕ) (shown : List (List Cell)) → All (IsHeld cols) shown → AllRows cols (map (filled_with behind cols) shown ++ replicate (rows - length shown) (spaces behind cols))
+AllRows-filled behind rows cols shown held =
+    AllRows-append cols (map (filled_with behind cols) shown) (replicate (rows - length shown) (spaces behind cols))
+    (rows-filled behind true 0 cols shown held) (AllRows-spaces behind (rows - length shown) cols)
 
 -- each row is as wide as the window and whole
 pub AllRows-window_rows_with : (behind : Attrs) (c : Content) (size : Extent) (scroll : Scroll) → 1 ≤ size.cols → All IsWhole c.lines → AllRows size.cols (window_rows_with behind c size scroll)

@@ -3,7 +3,7 @@ ghost use Rattle.std.specs.Prelude.{IsTrue};
 ghost use Rattle.win_view.specs.Contents.{IsContent};
 
 use super::*;
-use cell_grid::{Attrs, CellRow, CellRows, Fragment, NoMemory, Size, cells_of};
+use cell_grid::{Attrs, Cell, CellRow, CellRows, Fragment, Grid, NoMemory, Size, cells_of};
 use std::alloc::Global;
 use std::process::Abort;
 use std::test::Fail;
@@ -316,6 +316,96 @@ fn views_of_a_window(rt: HostRuntime) -> Result<(), Fail> {
     for shown in &SHOWN {
         assert_shown(&rt, shown, None)?;
         assert_shown(&rt, shown, Some(underlined()))?;
+    }
+    Ok(())
+}
+
+// What a part of a grid shows: whether lines wrap, the lines, the scroll, and the part's rows, each as its bold characters and
+// the spaces behind them.
+type Part = (
+    bool,
+    &'static [&'static str],
+    (u32, u32),
+    &'static [(&'static str, &'static str)],
+);
+
+const PARTS: [Part; 3] = [
+    (
+        true,
+        &["ab中c"],
+        (0, 0),
+        &[("ab中", ""), ("c", "   "), ("", "    ")],
+    ),
+    (
+        true,
+        &["ab中c", "国人"],
+        (1, 0),
+        &[("c", "   "), ("国人", ""), ("", "    ")],
+    ),
+    (
+        false,
+        &["ab中cd国", "x"],
+        (0, 3),
+        &[(" cd ", ""), ("", "    "), ("", "    ")],
+    ),
+];
+
+// A grid of five rows, each of three wide characters.
+fn wide_grid(rt: &(impl Abort + AllocGlobal)) -> Result<Grid, Fail> {
+    let wide = row_of(rt.alloc(), "", "中国人")?;
+    let mut grid = Grid::blank(rt.alloc(), 5, 6)?;
+    for row in 0..5 {
+        assert!(rt; row < grid.rows() && wide.len() <= grid.cols() as usize);
+        grid.lay(row, 0, wide.as_slice());
+    }
+    Ok(grid)
+}
+
+// The part has three rows and four columns, and parts a wide character at either side, of which a blank is left.
+fn assert_part(rt: &(impl Abort + AllocGlobal), part: &Part) -> Result<(), Fail> {
+    let (wrap, lines, (down, across), wanted) = *part;
+    let content = content_of(rt.alloc(), lines, 0, 0, wrap)?;
+    assert!(rt; is_content(&content));
+    let viewport = Viewport {
+        row: 1,
+        col: 1,
+        size: Size::new(3, 4).ok_or("size")?,
+        behind: underlined(),
+    };
+    let mut grid = wide_grid(rt)?;
+    assert!(rt; 1 + viewport.size.rows() <= grid.rows());
+    assert!(rt; 1 + viewport.size.cols() <= grid.cols());
+    show(
+        rt.alloc(),
+        &content,
+        Scroll { down, across },
+        &viewport,
+        &mut grid,
+    )?;
+    let wide = row_of(rt.alloc(), "", "中国人")?;
+    assert!(rt; 4 < grid.rows());
+    assert!(rt; grid.row(0) == wide.as_slice() && grid.row(4) == wide.as_slice());
+    let mut row = 1;
+    for (strong, spaces) in wanted {
+        let cells = row_over(rt.alloc(), strong, spaces, underlined())?;
+        assert!(rt; row < grid.rows());
+        let shown = grid.row(row);
+        assert!(rt; shown.len() == 6);
+        assert!(rt; shown[0] == Cell::blank() && shown[5] == Cell::blank());
+        assert!(rt;
+            &shown[1..5] == cells.as_slice(),
+            "{wrap} {down} {across}: {strong:?}"
+        );
+        row += 1;
+    }
+    assert_eq!(rt; row, 4);
+    Ok(())
+}
+
+#[test]
+fn parts_of_a_grid(rt: HostRuntime) -> Result<(), Fail> {
+    for part in &PARTS {
+        assert_part(&rt, part)?;
     }
     Ok(())
 }

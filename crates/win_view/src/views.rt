@@ -5,8 +5,7 @@ ghost use Rattle.win_view.specs.Contents.{IsContent};
 ghost use Rattle.win_view.specs.Views.{viewed, viewed_with};
 
 use crate::cursors::seen_cursor;
-use crate::grids::{cut_grid, wrapped_grid};
-use crate::{Content, Scroll};
+use crate::{Content, Scroll, Viewport, show};
 use cell_grid::{Attrs, Grid, NoMemory, Size};
 use std::alloc::Global;
 
@@ -47,11 +46,14 @@ pub fn view_with(
     ensures cols { IfOk result (λ view. columns view.grid ≡ size.cols) }
 {
     let (row, col) = seen_cursor(content, size, scroll);
-    let lines = content.lines.as_slice();
-    let grid = if content.wrap {
-        wrapped_grid(alloc, lines, size, scroll.down, behind)?
-    } else {
-        cut_grid(alloc, lines, size, scroll, behind)?
+    let viewport = Viewport {
+        row: 0,
+        col: 0,
+        size,
+        behind,
     };
+    let mut grid = Grid::blank(alloc, size.rows(), size.cols())?;
+    prove!(size.cols() <= grid.cols());
+    show(alloc, content, scroll, &viewport, &mut grid)?;
     Ok(WindowView { grid, row, col })
 }
