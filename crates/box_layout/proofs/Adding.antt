@@ -1,5 +1,5 @@
 -- What the parts of a layout add, by what its nodes add.
-use Rattle.std.proofs.Common.{Bool, true, false, cond, ℕ, ◌≡◌, ◌≤◌, sym, ◌∙◌, ap, subst, List, [], ◌∷◌, ◌++◌, append-nil, filter, length, take, drop, length-append, Option, Some, arith}
+use Rattle.std.proofs.Common.{Bool, true, false, cond, ℕ, ◌≡◌, ◌≤◌, sym, ◌∙◌, ap, subst, List, [], ◌∷◌, ◌++◌, append-nil, filter, length, take, drop, Option, Some, arith}
 use Rattle.std.proofs.lemmas.List.Elements.{All-nil, All-cons}
 use Rattle.std.proofs.Math.Seq.{take-append_seam, drop-append_seam}
 use Rattle.box_layout.specs.declared.nodes.Float.{Float}
@@ -12,7 +12,7 @@ use Rattle.box_layout.specs.declared.nodes.Node.{Node}
 use Rattle.box_layout.specs.Adding.{Adds}
 use Rattle.box_layout.specs.Areas.{IsInside}
 use Rattle.box_layout.specs.Boxes.{Boxes, Meaning}
-use Rattle.box_layout.specs.Placed.{PlacedFields, AllInside, area_of}
+use Rattle.box_layout.specs.Placed.{PlacedFields, area_of}
 
 -- what a part adds it adds also under another name of its meaning
 pub adds_by : (means same : Meaning) (area : Area) (before after : List PlacedFields) (fits : Bool) → means ≡ same → Adds (means area) area before after fits → Adds (same area) area before after fits
@@ -42,15 +42,10 @@ adds_floats done child floats area first before middle after some n (under, is, 
     let back : drop first middle ≡ under = rw (n, is) (drop-append_seam before under) in
     (with_floats area under floats, e ∙ (λ i. front i ++ with_floats area (back i) floats), box_some done child floats area under gives, floats_inside area under floats some inside)
 
--- what was added behind a list lies inside
-pub added_inside : (means : Option (List PlacedFields) → Type 0) (area : Area) (first : ℕ) (before middle : List PlacedFields) → first ≡ length before → Adds means area before middle true → AllInside area (drop first middle)
-added_inside means area first before middle n (under, is, gives, inside) =
-    let back : drop first middle ≡ under = rw (n, is) (drop-append_seam before under) in
-    subst (AllInside area) (sym back) inside
-
-pub added_length : (means : Option (List PlacedFields) → Type 0) (area : Area) (first : ℕ) (before middle : List PlacedFields) → first ≡ length before → Adds means area before middle true → first ≤ length middle
-added_length means area first before middle n (under, is, gives, inside) = omega (arith, n, ap length is, length-append before under)
-
 -- what a part adds, where it is known whether it fits
 pub adds_at : (means : Option (List PlacedFields) → Type 0) (area : Area) (before after : List PlacedFields) (fits known : Bool) → fits ≡ known → Adds means area before after fits → Adds means area before after known
 adds_at means area before after fits known e adds = subst (Adds means area before after) e adds
+
+-- what was added to nothing is all there is
+pub adds_alone : (means : Option (List PlacedFields) → Type 0) (area : Area) (before after : List PlacedFields) → before ≡ [] → Adds means area before after true → means (Some after)
+adds_alone means area before after none (those, is, gives, inside) = subst (λ (l : List PlacedFields). means (Some l)) (sym (is ∙ ap (λ l. l ++ those) none)) gives

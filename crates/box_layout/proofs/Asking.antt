@@ -1,14 +1,14 @@
 -- What each kind of node asks for.
-use Rattle.std.proofs.Common.{Bool, true, false, ◌≡◌, sym, ◌∙◌, ap, List, [], map, filter}
+use Rattle.std.proofs.Common.{Bool, true, false, ◌≡◌, sym, ◌∙◌, ap, List, map, filter}
 use mathlib.Core.List.{map-map}
 use Rattle.layout_dims.specs.Numbers.{Numbers, sum_of, largest_of}
 use Rattle.box_layout.specs.declared.nodes.Float.{Float}
 use Rattle.box_layout.specs.declared.nodes.Node.{Node}
 use Rattle.box_layout.specs.declared.nodes.Node.TheOpen as layer
-use Rattle.box_layout.specs.declared.nodes.Node.TheVariants.{HSplit, VSplit, Window, When, FloatBox, rolls-HSplit, rolls-VSplit, rolls-Window, rolls-When, rolls-FloatBox}
+use Rattle.box_layout.specs.declared.nodes.Node.TheVariants.{HSplit, VSplit, When, FloatBox, rolls-HSplit, rolls-VSplit, rolls-When, rolls-FloatBox}
 use Rattle.box_layout.specs.declared.nodes.Node.TheFolds.{fold-roll-Node}
-use Rattle.box_layout.specs.Asked.{Asked, asked, asked_by, wanted, rows_asked, cols_asked}
-use Rattle.box_layout.specs.Panes.{PaneFields}
+use Rattle.box_layout.specs.declared.asked.Asked.{Asked}
+use Rattle.box_layout.specs.Asked.{asked, asked_by, wanted, rows_asked, cols_asked}
 use Rattle.box_layout.proofs.Lists.{filter_mapped}
 
 -- whether a node stands in the split around it
@@ -35,14 +35,8 @@ asked_HSplit children = ap asked (sym (rolls-HSplit children)) ∙ fold-roll-Nod
 pub asked_VSplit : (children : List Node) → asked (VSplit children) ≡ here (largest_of (parts_along false children)) (sum_of (parts_along true children))
 asked_VSplit children = ap asked (sym (rolls-VSplit children)) ∙ fold-roll-Node Asked asked_by (layer.VSplit children) ∙ (λ i. here (largest_of (rows_are children i)) (sum_of (cols_are children i)))
 
-pub asked_Window : (pane : PaneFields) → asked (Window pane) ≡ here pane.height pane.width
-asked_Window pane = ap asked (sym (rolls-Window pane)) ∙ fold-roll-Node Asked asked_by (layer.Window pane)
-
 pub asked_shown : (part : Node) → asked (When true part) ≡ here (asked part).rows (asked part).cols
 asked_shown part = ap asked (sym (rolls-When true part)) ∙ fold-roll-Node Asked asked_by (layer.When true part)
-
-pub asked_absent : (part : Node) → asked (When false part) ≡ record { present = false; rows = sum_of []; cols = sum_of [] }
-asked_absent part = ap asked (sym (rolls-When false part)) ∙ fold-roll-Node Asked asked_by (layer.When false part)
 
 pub asked_FloatBox : (part : Node) (floats : List Float) → asked (FloatBox part floats) ≡ here (asked part).rows (asked part).cols
 asked_FloatBox part floats = ap asked (sym (rolls-FloatBox part floats)) ∙ fold-roll-Node Asked asked_by (layer.FloatBox part floats)

@@ -1,5 +1,5 @@
 -- What a layout whose splits have few children says of the nodes inside it.
-use Rattle.std.proofs.Common.{Bool, ℕ, ◌≡◌, ◌≤◌, refl, sym, ◌∙◌, ap, subst, List, [], ◌∷◌, map, length, drop, zero, suc}
+use Rattle.std.proofs.Common.{Bool, ◌≡◌, ◌≤◌, refl, sym, ◌∙◌, ap, subst, List, [], ◌∷◌, map, length, suc}
 use mathlib.Core.Path.{transport}
 use Rattle.box_layout.specs.declared.nodes.Float.{Float}
 use Rattle.box_layout.specs.declared.nodes.Node.{Node}
@@ -56,12 +56,3 @@ few_FloatBox child floats few = transport (few_at_FloatBox child floats) few
 -- a test of a fact is one of the fact under its other name
 pub same_test : (b : Bool) (P Q : Type 0) → P ≡ Q → (IsTrue b ↔ Q) → (IsTrue b ↔ P)
 same_test b P Q e test = subst (λ (R : Type 0). IsTrue b ↔ R) (sym e) test
-
--- what each of the children is, the next one is
-pub each_at : {A : Type 0} (P : A → Type 0) (xs : List A) (i : ℕ) (x : A) (ys : List A) → EachChild A P xs → drop i xs ≡ x ∷ ys → P x
-each_at P [] zero x ys each e = cc
-each_at P [] (suc i) x ys each e = cc
-each_at P (z ∷ xs) zero x ys each e =
-    let same : z ≡ x = cc in
-    subst P same each.0
-each_at P (z ∷ xs) (suc i) x ys each e = each_at P xs i x ys each.1 e

@@ -3,7 +3,7 @@ pub mod Asking
 pub mod Few
 pub mod FloatAreas
 pub mod Lists
-pub mod Measured
+pub mod Listed
 pub mod Mending
 pub mod OnePlacing
 pub mod PaintedRows

@@ -1,9 +1,9 @@
 -- Lists that are made from a range of numbers, with a part of them replaced.
 use Prim.Native.Nat.{zero, suc}
-use Rattle.std.proofs.Common.{◌≡◌, ℕ, ◌+◌, ◌≤◌, ◌<◌, List, [], ◌∷◌, ◌++◌, length, map, take, drop, get_or, refl, ap, ◌∙◌, arith, length-append, take-append-drop}
+use Rattle.std.proofs.Common.{◌≡◌, ℕ, ◌+◌, ◌≤◌, ◌<◌, List, [], ◌∷◌, ◌++◌, length, map, take, drop, get_or, refl, ap, ◌∙◌, arith}
 use Rattle.std.specs.List.{range_with_len}
 use Rattle.cell_grid.specs.declared.cell.Cell.{Cell}
-use Rattle.cell_grid.specs.Grid.{blitted, laid_over, row_at}
+use Rattle.cell_grid.specs.Grid.{blitted, row_at}
 use Rattle.cell_grid.specs.Row.{laid_at}
 
 pub map-same : {X : Type 0} (f g : ℕ → X) (from count : ℕ) → ((i : ℕ) → from ≤ i → i < from + count → f i ≡ g i) → map f (range_with_len from count) ≡ map g (range_with_len from count)
@@ -53,19 +53,3 @@ rows-blitted f g from (suc place) (suc count) col part fits above here below =
     (λ k i within is. here k i within (omega arith)) (λ i low high. below i (omega arith) (omega arith))
     )
     ∙ ap (λ (row : List Cell). row ∷ map g (range_with_len (from + 1) count)) (above from (omega arith) (omega arith))
-
--- there are as many rows as before
-length-laid_over : (rows part : List (List Cell)) (col : ℕ) → length (laid_over rows part col) ≡ length rows
-length-laid_over rows [] col = refl
-length-laid_over [] (cells ∷ part) col = refl
-length-laid_over (row ∷ rows) (cells ∷ part) col = ap suc (length-laid_over rows part col)
-
-pub length-blitted : (rows part : List (List Cell)) (row col : ℕ) → length (blitted rows part row col) ≡ length rows
-length-blitted rows part row col =
-    omega (
-      arith,
-      length-append (take row rows) (laid_over (drop row rows) part col),
-      length-laid_over (drop row rows) part col,
-      length-append (take row rows) (drop row rows),
-      ap length (take-append-drop row rows),
-    )

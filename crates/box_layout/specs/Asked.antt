@@ -1,15 +1,10 @@
 -- What a contract sees of the room that a node asks for.
 use Rattle.std.specs.Prelude.{Bool, true, false, List, [], filter, map}
 use Rattle.layout_dims.specs.Numbers.{Numbers, sum_of, largest_of}
+use Rattle.box_layout.specs.declared.asked.Asked.{Asked}
 use Rattle.box_layout.specs.declared.nodes.Node.{Node}
 use Rattle.box_layout.specs.declared.nodes.Node.TheOpen as layer
 use Rattle.box_layout.specs.declared.nodes.Node.TheFolds.{fold-Node}
-
--- the rows and the columns that a node asks for, and whether it stands in a split at all
-pub record Asked : Type 0 where
-  pub present : Bool
-  pub rows : Numbers
-  pub cols : Numbers
 
 -- what the children that stand in a split ask for, downwards and across
 abbrev pub rows_asked : List Asked → List Numbers

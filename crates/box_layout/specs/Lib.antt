@@ -4,7 +4,7 @@ pub mod Asked
 pub mod Boxes
 pub mod Children
 pub mod Floats
-pub mod Measures
+pub mod Listing
 pub mod Painting
 pub mod Panes
 pub mod Parts

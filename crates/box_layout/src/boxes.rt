@@ -1,17 +1,18 @@
 //! Where the windows of a layout stand.
-ghost use Rattle.std.specs.Prelude.{◌≡◌, ◌+◌, ◌≤◌, [], map, flat_map, filter, zip, length, sum, IfOk, IfSome};
+ghost use Rattle.std.specs.Prelude.{◌≡◌, ◌+◌, ◌≤◌, [], flat_map, filter, zip, length, sum, IfOk, IfSome};
 ghost use Rattle.box_layout.specs.Adding.{Adds, PartGives};
 ghost use Rattle.box_layout.specs.Areas.{whole, room_of, IsDrawable};
 ghost use Rattle.box_layout.specs.Asked.{asked};
 ghost use Rattle.box_layout.specs.Boxes.{Boxes, InTurn, SplitGives};
 ghost use Rattle.box_layout.specs.Children.{EachChild, HasFewChildren};
-ghost use Rattle.box_layout.specs.Measures.{measures, BeginsAt};
+ghost use Rattle.box_layout.specs.Listing.{inside, listing, tops, IsListing};
 ghost use Rattle.box_layout.specs.Placed.{AllInside};
 ghost use Rattle.box_layout.specs.declared.nodes.Node.{Node};
 
 use crate::areas::Area;
+use crate::asked::Asked;
 use crate::floats::place_floats;
-use crate::measures::{Measure, measured_of, parts_of};
+use crate::listings::{ListedNode, first_of, listing_of, parts_of};
 use crate::{Node, Pane, Placed, PlacedList};
 use cell_grid::{NoMemory, Size};
 use layout_dims::divide;
@@ -24,7 +25,8 @@ use std::alloc::Global;
 /// what they ask for; `done` says that none grows beyond what it asks for by preference. A child
 /// of size 0 gives nothing, whatever is in it. A box gives what is in it and then its floats.
 ///
-/// The layout is walked twice, once for what its nodes ask for and once for their places.
+/// The layout is walked once. This walk lists its nodes with what they ask for, and the areas are
+/// found by going over the list; a part that is not there is never looked at.
 pub fn place<'a>(
     alloc: Global,
     node: &'a Node,
@@ -35,53 +37,49 @@ pub fn place<'a>(
     ensures boxes { IfOk result (λ answer. Boxes done node.now (whole size) answer) }
     ensures inside { IfOk result (λ answer. IfSome answer (AllInside (whole size))) }
 {
-    let measured = measured_of(alloc, node)?;
+    let listed = listing_of(alloc, node)?;
+    let (own, inner) = first_of(listed.as_slice());
     let area = Area::whole(size);
-    let placing = Placing {
-        alloc,
-        measured: &measured,
-        done,
-    };
+    let placing = Placing { alloc, done };
     let mut placed = PlacedList::new(alloc);
-    if !placing.place_in(node, 0, &area, &mut placed)? {
+    if !placing.place_in(own, inner, &area, &mut placed)? {
         return Ok(None);
     }
     Ok(Some(placed))
 }
 
-// What stays the same while a layout is placed: the measures of all its nodes, and whether it is
-// done.
+// What stays the same while a layout is placed.
 #[derive(Drop)]
-pub(crate) struct Placing<'m> {
+pub(crate) struct Placing {
     pub(crate) alloc: Global,
-    pub(crate) measured: &'m [Measure],
     pub(crate) done: bool,
 }
 
-impl<'m> Placing<'m> {
-    // Adds the panes of a node, whose measures begin at a place. False says that a division
+impl Placing {
+    // Adds the panes of a node, which stands in the list before these. False says that a division
     // inside has too little room.
     #[cycle(placing)]
     pub(crate) fn place_in<'a>(
         &self,
-        node: &'a Node,
-        at: usize,
+        own: &ListedNode<'a>,
+        inner: &[ListedNode<'a>],
         area: &Area,
         placed: &mut PlacedList<'a>,
     ) -> Result<bool, NoMemory>
-        requires few { HasFewChildren node.now }
-        requires begins { BeginsAt self.now.measured.now at (measures node.now) }
+        requires few { HasFewChildren own.now.node }
+        requires inner { inner.now ≡ flat_map listing (inside own.now.node) }
         requires drawable { IsDrawable area.now }
         ensures { IfOk result (λ fits.
-            Adds (Boxes self.now.done node.now area.now) area.now placed.old placed.new fits) }
+            Adds (Boxes self.now.done own.now.node area.now) area.now placed.old placed.new fits) }
     {
+        let node: &'a Node = own.node;
         match node {
-            Node::HSplit(children) => {
-                let fits = self.place_split(children.as_slice(), at + 1, false, area, placed)?;
+            Node::HSplit(_) => {
+                let fits = self.place_split(inner, false, area, placed)?;
                 Ok(fits)
             },
-            Node::VSplit(children) => {
-                let fits = self.place_split(children.as_slice(), at + 1, true, area, placed)?;
+            Node::VSplit(_) => {
+                let fits = self.place_split(inner, true, area, placed)?;
                 Ok(fits)
             },
             Node::Window(pane) => {
@@ -95,16 +93,18 @@ impl<'m> Placing<'m> {
                 })?;
                 Ok(true)
             },
-            Node::When(shown, inner) => {
+            Node::When(shown, _) => {
                 if !*shown {
                     return Ok(true);
                 }
-                let fits = self.place_in(inner.get(), at + 1, area, placed)?;
+                let (part, inside) = first_of(inner);
+                let fits = self.place_in(part, inside, area, placed)?;
                 Ok(fits)
             },
-            Node::FloatBox(inner, floats) => {
+            Node::FloatBox(_, floats) => {
                 let first = placed.len();
-                if !self.place_in(inner.get(), at + 1, area, placed)? {
+                let (part, inside) = first_of(inner);
+                if !self.place_in(part, inside, area, placed)? {
                     return Ok(false);
                 }
                 place_floats(self.alloc, floats.as_slice(), area, first, placed)?;
@@ -118,25 +118,24 @@ impl<'m> Placing<'m> {
     #[cycle(placing)]
     fn place_split<'a>(
         &self,
-        children: &'a [Node],
-        at: usize,
+        children: &[ListedNode<'a>],
         across: bool,
         area: &Area,
         placed: &mut PlacedList<'a>,
     ) -> Result<bool, NoMemory>
-        requires few { length children.now ≤ 1000 }
-        requires few_inside { EachChild Node HasFewChildren children.now }
-        requires begins { BeginsAt self.now.measured.now at (flat_map measures children.now) }
+        requires listing { IsListing children.now }
+        requires few { length (tops children.now) ≤ 1000 }
+        requires few_inside { EachChild Node HasFewChildren (tops children.now) }
         requires drawable { IsDrawable area.now }
         ensures { IfOk result (λ fits.
-            Adds (SplitGives Node (λ x. x) (Boxes self.now.done) self.now.done across children.now area.now)
+            Adds (SplitGives Node (λ x. x) (Boxes self.now.done) self.now.done across (tops children.now) area.now)
             area.now placed.old placed.new fits) }
     {
-        let parts = parts_of(self.alloc, children, self.measured, at, across)?;
+        let parts = parts_of(self.alloc, children, across)?;
         let room = area.room(across);
         match divide(self.alloc, &parts, room, self.done)? {
             Some(sizes) => {
-                let fits = self.place_parts(children, at, sizes.as_slice(), across, area, placed)?;
+                let fits = self.place_parts(children, sizes.as_slice(), across, area, placed)?;
                 Ok(fits)
             },
             None => Ok(false),
@@ -147,64 +146,64 @@ impl<'m> Placing<'m> {
     #[cycle(placing)]
     fn place_parts<'a>(
         &self,
-        children: &'a [Node],
-        first: usize,
+        children: &[ListedNode<'a>],
         sizes: &[u32],
         across: bool,
         area: &Area,
         placed: &mut PlacedList<'a>,
     ) -> Result<bool, NoMemory>
-        requires few_inside { EachChild Node HasFewChildren children.now }
-        requires begins { BeginsAt self.now.measured.now first (flat_map measures children.now) }
+        requires listing { IsListing children.now }
+        requires few_inside { EachChild Node HasFewChildren (tops children.now) }
         requires drawable { IsDrawable area.now }
-        requires one_each { length sizes.now ≡ length (filter (λ x. (asked x).present) children.now) }
+        requires one_each { length sizes.now ≡ length (filter (λ x. (asked x).present) (tops children.now)) }
         requires room { sum sizes.now ≤ room_of across area.now }
         ensures { IfOk result (λ fits.
             Adds (InTurn Node (Boxes self.now.done) across area.now
-            (zip (filter (λ x. (asked x).present) children.now) sizes.now) 0)
+            (zip (filter (λ x. (asked x).present) (tops children.now)) sizes.now) 0)
             area.now placed.old placed.new fits) }
     {
-        let mut at = first;
+        let mut at = 0;
         let mut next = 0;
         let mut before = 0;
-        for child in children {
-            let own = &self.measured[at];
+        while at < children.len() {
+            let (child, inner) = first_of(&children[at..]);
+            let own: &Asked = &child.asked;
             if own.present {
                 let size = sizes[next];
-                if !self.place_part(child, at, across, area, before, size, placed)? {
+                if !self.place_part(child, inner, across, area, before, size, placed)? {
                     return Ok(false);
                 }
                 next += 1;
                 before += size;
             }
-            at += own.nodes;
+            at += inner.len() + 1;
         }
         Ok(true)
     }
 
-    // Adds the panes of a child in its part of an area.
+    // Adds the panes of a child, which stands in the list before these, in its part of an area.
     #[cycle(placing)]
     fn place_part<'a>(
         &self,
-        child: &'a Node,
-        at: usize,
+        child: &ListedNode<'a>,
+        inner: &[ListedNode<'a>],
         across: bool,
         area: &Area,
         before: u32,
         size: u32,
         placed: &mut PlacedList<'a>,
     ) -> Result<bool, NoMemory>
-        requires few { HasFewChildren child.now }
-        requires begins { BeginsAt self.now.measured.now at (measures child.now) }
+        requires few { HasFewChildren child.now.node }
+        requires inner { inner.now ≡ flat_map listing (inside child.now.node) }
         requires drawable { IsDrawable area.now }
         requires room { before + size ≤ room_of across area.now }
         ensures { IfOk result (λ fits.
-            Adds (PartGives self.now.done across area.now child.now before size)
+            Adds (PartGives self.now.done across area.now child.now.node before size)
             area.now placed.old placed.new fits) }
     {
         match area.part(across, before, size) {
             Some(part) => {
-                let fits = self.place_in(child, at, &part, placed)?;
+                let fits = self.place_in(child, inner, &part, placed)?;
                 Ok(fits)
             },
             None => Ok(true),

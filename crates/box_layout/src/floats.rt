@@ -124,8 +124,8 @@ fn is_free(alloc: Global, under: &[Placed], area: &Area, count: u32) -> Result<b
     ensures { IfOk result (λ free. free ≡ is_free under.now area.now count) }
 {
     let first = area.size.cols() - count;
-    let cells = shown_row(alloc, under, area)?;
-    let blanks = are_blank(cells.as_slice(), first as usize);
+    let grid = shown_row(alloc, under, area)?;
+    let blanks = are_blank(grid.row(0), first as usize);
     Ok(blanks && !is_from(cursor_of_all(under), area.row, area.col + first, count))
 }
 

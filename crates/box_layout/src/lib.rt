@@ -2,11 +2,12 @@
 #![tactic(auto)]
 
 mod areas;
+mod asked;
 mod boxes;
 mod floats;
 mod focus;
 pub mod laws;
-mod measures;
+mod listings;
 mod nodes;
 #[cfg(test)]
 mod paint_cases;
@@ -26,7 +27,7 @@ mod shown_rows;
 
 pub use boxes::place;
 pub use cell_grid::{Drawing, NoMemory};
-pub use measures::preferred;
+pub use listings::preferred;
 pub use nodes::{Float, FloatPlace, Floats, Node, Nodes, Pane};
 pub use paints::paint;
 pub use placed::{Placed, PlacedList};

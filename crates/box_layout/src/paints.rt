@@ -10,7 +10,7 @@ use crate::focus::cursor_of_all;
 use crate::{Pane, Placed, PlacedList};
 use cell_grid::{Drawing, Grid, NoMemory, Size};
 use std::alloc::Global;
-use win_view::view_with;
+use win_view::{Viewport, show};
 
 /// Returns the drawing of these windows. Each place has the cell of the last window that holds it, else a blank. A half of a wide
 /// character whose other half is covered is a blank too. The cursor is that of the last window with the focus, and at the first
@@ -36,7 +36,8 @@ fn paint_all(alloc: Global, placed: &[Placed], size: Size) -> Result<Grid, NoMem
         size,
     };
     let mut grid = Grid::blank(alloc, size.rows(), size.cols())?;
-    for one in placed {
+    for at in 0..placed.len() {
+        let one = &placed[at];
         paint_over(alloc, &mut grid, &area, one)?;
     }
     Ok(grid)
@@ -58,8 +59,13 @@ pub fn paint_over(
     ensures cols { columns grid.new ≡ columns grid.old }
 {
     let pane: &Pane = placed.pane;
-    let view = view_with(alloc, &pane.content, placed.size, placed.scroll, pane.attrs)?;
-    prove!(view.grid.cols() <= grid.cols());
-    grid.blit(&view.grid, placed.row - area.row, placed.col - area.col)?;
+    let viewport = Viewport {
+        row: placed.row - area.row,
+        col: placed.col - area.col,
+        size: placed.size,
+        behind: pane.attrs,
+    };
+    prove!(viewport.size.cols() > 0);
+    show(alloc, &pane.content, placed.scroll, &viewport, grid)?;
     Ok(())
 }

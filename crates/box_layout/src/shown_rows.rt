@@ -1,5 +1,5 @@
 //! One row of what windows show at their places.
-ghost use Rattle.std.specs.Prelude.{◌≡◌, IfOk, length};
+ghost use Rattle.std.specs.Prelude.{◌≡◌, [], ◌∷◌, IfOk, length};
 ghost use Rattle.box_layout.specs.Areas.{IsInside};
 ghost use Rattle.box_layout.specs.Painting.{shown_cells};
 ghost use Rattle.box_layout.specs.Placed.{AllInside, area_of};
@@ -7,14 +7,15 @@ ghost use Rattle.box_layout.specs.Placed.{AllInside, area_of};
 use crate::Placed;
 use crate::areas::Area;
 use crate::paints::paint_over;
-use cell_grid::{Cell, Grid, NoMemory, Size};
+use cell_grid::{Grid, NoMemory, Size};
 use std::alloc::Global;
 
-/// The cells that the first row of an area shows. A window inside the area that is on this row begins there, so of its view one
-/// row is built: the first row of a view is the same whatever the view's height.
-pub fn shown_row(alloc: Global, placed: &[Placed], area: &Area) -> Result<Vec<Cell>, NoMemory>
+/// The first row of what an area shows, as a grid of one row. A window inside the area that is on this row begins there, so one
+/// row of it is shown: the first row of a window is the same whatever the window's height.
+pub fn shown_row(alloc: Global, placed: &[Placed], area: &Area) -> Result<Grid, NoMemory>
     requires { AllInside area.now placed.now }
-    ensures { IfOk result (λ cells. cells.items ≡ shown_cells placed.now area.now.row area.now.col area.now.size.cols) }
+    ensures { IfOk result (λ grid. grid
+        ≡ shown_cells placed.now area.now.row area.now.col area.now.size.cols ∷ []) }
 {
     let first = Area {
         row: area.row,
@@ -35,8 +36,7 @@ pub fn shown_row(alloc: Global, placed: &[Placed], area: &Area) -> Result<Vec<Ce
             paint_over(alloc, &mut grid, &first, &cut)?;
         }
     }
-    let cells = Vec::from_slice(alloc, grid.row(0))?;
-    Ok(cells)
+    Ok(grid)
 }
 
 /// One row of as many columns.

@@ -6,8 +6,8 @@ use Rattle.box_layout.specs.Areas.{whole}
 use Rattle.box_layout.proofs.PaintedRows.{columns-none, painted-none}
 use Rattle.box_layout.proofs.paints.paint_all.Goals as goal
 
-pub loop-one-init : goal.loop-one-init
-loop-one-init c =
+pub loop-at-init : goal.loop-at-init
+loop-at-init c =
     let size = c.args.size in
     let is : c.in_ok-grid.grid ≡ blank_rows size.rows size.cols = rw (c.rows.ensures.value, c.cols.ensures.value) at c.in_ok-grid.ensures in
     record {
