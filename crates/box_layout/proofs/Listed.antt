@@ -12,7 +12,9 @@ use Rattle.box_layout.specs.declared.nodes.Node.TheVariants.{HSplit, VSplit, Whe
 use Rattle.box_layout.specs.declared.nodes.Node.TheFolds.{para-roll-Node, map-Node}
 use Rattle.box_layout.specs.declared.nodes.Node.TheViews.{out-Node, roll-Node, roll-out-Node, out-roll-Node}
 use Rattle.box_layout.specs.Asked.{asked}
+use Rattle.box_layout.specs.Children.{EachChild, HasFewChildren}
 use Rattle.box_layout.specs.Listing.{Listed, parts_by, inside, listed_with, listing, listing_by, tops, tops_behind, IsFirst, IsListing}
+use Rattle.box_layout.proofs.Few.{few_HSplit, few_VSplit}
 use Rattle.box_layout.proofs.Lists.{first_is, next_is}
 
 abbrev paired : Node → Node × List Listed
@@ -123,6 +125,10 @@ onward all at first inner h of_slice =
 pub added : (old all more : List Listed) (first : ℕ) → first ≡ length old → all ≡ old ++ more → drop first all ≡ more
 added old all more first n e = (λ i. drop (n i) (e i)) ∙ drop-append_seam old more
 
+-- the children that were added behind others, as they are read
+pub children_added : (old all : List Listed) (children : List Node) (first : ℕ) → first ≡ length old → all ≡ old ++ flat_map listing children → take (length all - first) (drop first all) ≡ flat_map listing children
+children_added old all children first n e = rest_is first all ∙ added old all (flat_map listing children) first n e
+
 -- the first node of what was added
 pub first_added : (old all : List Listed) (node : Node) (first : ℕ) → first ≡ length old → all ≡ old ++ listing node → (first < length all) × ((d : Listed) → (get_or all first d).asked ≡ asked node)
 first_added old all node first n e =
@@ -154,6 +160,31 @@ inside_shown part = ap inside (sym (rolls-When true part)) ∙ ap (parts_by Node
 
 pub inside_FloatBox : (part : Node) (floats : List Float) → inside (FloatBox part floats) ≡ part ∷ []
 inside_FloatBox part floats = ap inside (sym (rolls-FloatBox part floats)) ∙ ap (parts_by Node) (out-roll-Node (layer.FloatBox part floats))
+
+-- a list that holds the children of a split and those inside them
+pub record IsSplit (inner : List Listed) (children : List Node) : Type 0 where
+  pub listing : IsListing inner
+  pub tops_are : tops inner ≡ children
+  pub few : length (tops inner) ≤ 1000
+  pub each : EachChild Node HasFewChildren (tops inner)
+
+split_of : (children : List Node) (inner : List Listed) → inner ≡ flat_map listing children → (length children ≤ 1000) × EachChild Node HasFewChildren children → IsSplit inner children
+split_of children inner e few =
+    let are : tops inner ≡ children = ap tops e ∙ tops_listing children in
+    record {
+      listing = is_listing children inner e;
+      tops_are = are;
+      few = subst (λ (l : List Node). length l ≤ 1000) (sym are) few.0;
+      each = subst (EachChild Node HasFewChildren) (sym are) few.1;
+    }
+
+pub rows_split : (node : Node) (children : List Node) (inner : List Listed) → node ≡ HSplit children → HasFewChildren node → inner ≡ flat_map listing (inside node) → IsSplit inner children
+rows_split node children inner is few e =
+    split_of children inner (e ∙ ap (λ n. flat_map listing (inside n)) is ∙ ap (flat_map listing) (inside_HSplit children)) (few_HSplit children (subst HasFewChildren is few))
+
+pub columns_split : (node : Node) (children : List Node) (inner : List Listed) → node ≡ VSplit children → HasFewChildren node → inner ≡ flat_map listing (inside node) → IsSplit inner children
+columns_split node children inner is few e =
+    split_of children inner (e ∙ ap (λ n. flat_map listing (inside n)) is ∙ ap (flat_map listing) (inside_VSplit children)) (few_VSplit children (subst HasFewChildren is few))
 
 -- a list that holds one node and those inside it
 pub record IsOnly (listed : List Listed) (node : Node) : Type 0 where

@@ -165,6 +165,3 @@ pub first-other : (before : List PlacedFields) (p : PlacedFields) (area : Area) 
 first-other before p area inside other =
     let above = inside.above in
     ap (λ (cells : List Cell). cells ∷ []) (shown-other before p area.row area.col area.size.cols (inl (omega arith)))
-
-pub first-inside : (p : PlacedFields) (area : Area) → IsInside area (area_of p) → p.row ≡ area.row → IsInside (first_in area) (area_of (first_of p))
-first-inside p area inside here = record { above = inside.above; below = omega arith; left = inside.left; right = inside.right }

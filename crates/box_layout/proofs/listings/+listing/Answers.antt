@@ -4,7 +4,7 @@ use Rattle.box_layout.specs.declared.nodes.Node.TheVariants.{When, FloatBox}
 use Rattle.box_layout.specs.Asked.{asked}
 use Rattle.box_layout.specs.Listing.{Listed, inside, listing, tops}
 use Rattle.box_layout.proofs.Asking.{here, asked_HSplit, asked_VSplit, asked_shown, asked_FloatBox, parts_along}
-use Rattle.box_layout.proofs.Listed.{rest_is, added, is_listing, tops_listing, first_added, put_in, count_inner, listing_is}
+use Rattle.box_layout.proofs.Listed.{children_added, is_listing, tops_listing, first_added, put_in, count_inner, listing_is}
 use Rattle.box_layout.proofs.listings.+listing.Goals as goal
 
 pub list_node-returns : goal.list_node-returns
@@ -22,22 +22,22 @@ list_node-returns t c =
 pub list_inner-parts_of-requires : goal.list_inner-parts_of-requires
 list_inner-parts_of-requires t c =
     let all = c.deref.ensures.value ∙ c.in_ok-list_all-in-HSplit.ensures in
-    is_listing c.as_slice.result.now _ (rest_is c.len-first.result _ ∙ added c.args.listed.now.items _ _ c.len-first.result (c.len-first.ensures ∙ c.args.listed.now.ok.0) all)
+    is_listing c.as_slice.result.now _ (children_added c.args.listed.now.items _ _ c.len-first.result (c.len-first.ensures ∙ c.args.listed.now.ok.0) all)
 
 pub list_inner-parts_of-requires-in-HSplit : goal.list_inner-parts_of-requires-in-HSplit
 list_inner-parts_of-requires-in-HSplit t c =
     let all = c.deref.ensures.value ∙ c.in_ok-list_all-in-HSplit.ensures in
-    is_listing c.as_slice.result.now _ (rest_is c.len-first.result _ ∙ added c.args.listed.now.items _ _ c.len-first.result (c.len-first.ensures ∙ c.args.listed.now.ok.0) all)
+    is_listing c.as_slice.result.now _ (children_added c.args.listed.now.items _ _ c.len-first.result (c.len-first.ensures ∙ c.args.listed.now.ok.0) all)
 
 pub list_inner-parts_of-requires-in-VSplit : goal.list_inner-parts_of-requires-in-VSplit
 list_inner-parts_of-requires-in-VSplit t c =
     let all = c.deref-in-VSplit.ensures.value ∙ c.in_ok-list_all-in-VSplit.ensures in
-    is_listing c.as_slice-in-VSplit.result.now _ (rest_is c.len-first.result _ ∙ added c.args.listed.now.items _ _ c.len-first.result (c.len-first.ensures ∙ c.args.listed.now.ok.0) all)
+    is_listing c.as_slice-in-VSplit.result.now _ (children_added c.args.listed.now.items _ _ c.len-first.result (c.len-first.ensures ∙ c.args.listed.now.ok.0) all)
 
 pub list_inner-parts_of-requires-in-VSplit-2 : goal.list_inner-parts_of-requires-in-VSplit-2
 list_inner-parts_of-requires-in-VSplit-2 t c =
     let all = c.deref-in-VSplit.ensures.value ∙ c.in_ok-list_all-in-VSplit.ensures in
-    is_listing c.as_slice-in-VSplit.result.now _ (rest_is c.len-first.result _ ∙ added c.args.listed.now.items _ _ c.len-first.result (c.len-first.ensures ∙ c.args.listed.now.ok.0) all)
+    is_listing c.as_slice-in-VSplit.result.now _ (children_added c.args.listed.now.items _ _ c.len-first.result (c.len-first.ensures ∙ c.args.listed.now.ok.0) all)
 
 pub list_inner-index-requires : goal.list_inner-index-requires
 list_inner-index-requires t c =
@@ -52,7 +52,7 @@ list_inner-index-requires-in-FloatBox t c =
 pub list_inner-returns-in_ok-cols-in-HSplit-clause-asked : goal.list_inner-returns-in_ok-cols-in-HSplit-clause-asked
 list_inner-returns-in_ok-cols-in-HSplit-clause-asked t c =
     let all = c.deref.ensures.value ∙ c.in_ok-list_all-in-HSplit.ensures in
-    let tops_are = ap tops (rest_is c.len-first.result _ ∙ added c.args.listed.now.items _ _ c.len-first.result (c.len-first.ensures ∙ c.args.listed.now.ok.0) all) ∙ tops_listing c.as_slice.result.now ∙ c.as_slice.ensures in
+    let tops_are = ap tops (children_added c.args.listed.now.items _ _ c.len-first.result (c.len-first.ensures ∙ c.args.listed.now.ok.0) all) ∙ tops_listing c.as_slice.result.now ∙ c.as_slice.ensures in
     let rows = c.sum.ensures ∙ ap sum_of (c.deref-in-HSplit.ensures.value ∙ c.in_ok-rows-in-HSplit.ensures ∙ ap (parts_along false) tops_are) in
     let cols = c.largest.ensures ∙ ap largest_of (c.deref-in-HSplit-2.ensures.value ∙ c.in_ok-cols-in-HSplit.ensures ∙ ap (parts_along true) tops_are) in
     c.here.ensures ∙ (λ i. here (rows i) (cols i)) ∙ sym (ap asked c.in-HSplit.is ∙ asked_HSplit _)
@@ -60,7 +60,7 @@ list_inner-returns-in_ok-cols-in-HSplit-clause-asked t c =
 pub list_inner-returns-in_ok-cols-in-VSplit-clause-asked : goal.list_inner-returns-in_ok-cols-in-VSplit-clause-asked
 list_inner-returns-in_ok-cols-in-VSplit-clause-asked t c =
     let all = c.deref-in-VSplit.ensures.value ∙ c.in_ok-list_all-in-VSplit.ensures in
-    let tops_are = ap tops (rest_is c.len-first.result _ ∙ added c.args.listed.now.items _ _ c.len-first.result (c.len-first.ensures ∙ c.args.listed.now.ok.0) all) ∙ tops_listing c.as_slice-in-VSplit.result.now ∙ c.as_slice-in-VSplit.ensures in
+    let tops_are = ap tops (children_added c.args.listed.now.items _ _ c.len-first.result (c.len-first.ensures ∙ c.args.listed.now.ok.0) all) ∙ tops_listing c.as_slice-in-VSplit.result.now ∙ c.as_slice-in-VSplit.ensures in
     let rows = c.largest-in-VSplit.ensures ∙ ap largest_of (c.deref-in-VSplit-2.ensures.value ∙ c.in_ok-rows-in-VSplit.ensures ∙ ap (parts_along false) tops_are) in
     let cols = c.sum-in-VSplit.ensures ∙ ap sum_of (c.deref-in-VSplit-3.ensures.value ∙ c.in_ok-cols-in-VSplit.ensures ∙ ap (parts_along true) tops_are) in
     c.here-in-VSplit.ensures ∙ (λ i. here (rows i) (cols i)) ∙ sym (ap asked c.in-VSplit.is ∙ asked_VSplit _)

@@ -1,4 +1,4 @@
-use Rattle.std.proofs.Common.{get_or, None, Some, ◌≡◌, ◌≤◌, [], ◌∷◌, List, flat_map, filter, length, ap, sym, ◌∙◌, subst, refl, true, false, arith}
+use Rattle.std.proofs.Common.{get_or, None, Some, ◌≡◌, [], ◌∷◌, filter, length, ap, sym, ◌∙◌, subst, refl, true, false, arith}
 use Rattle.std.proofs.lemmas.List.{drop_all, length-map}
 use Rattle.box_layout.specs.declared.asked.Asked.{Asked}
 use Rattle.box_layout.specs.declared.nodes.Node.{Node}
@@ -7,12 +7,12 @@ use Rattle.box_layout.specs.Adding.{Adds, PartGives}
 use Rattle.box_layout.specs.Asked.{asked, wanted}
 use Rattle.box_layout.specs.Boxes.{Boxes, SplitGives}
 use Rattle.box_layout.specs.Children.{EachChild, HasFewChildren}
-use Rattle.box_layout.specs.Listing.{Listed, inside, listing, tops}
+use Rattle.box_layout.specs.Listing.{Listed, tops}
 use Rattle.box_layout.specs.Panes.{PaneFields}
 use Rattle.box_layout.specs.Placed.{placed_at}
 use Rattle.box_layout.proofs.Adding.{adds_by, adds_none, adds_one, filter_short, adds_at, adds_floats}
-use Rattle.box_layout.proofs.Few.{few_HSplit, few_VSplit, few_When, few_FloatBox}
-use Rattle.box_layout.proofs.Listed.{onward, shown_part, boxed_part, tops_listing, is_listing, inside_HSplit, inside_VSplit}
+use Rattle.box_layout.proofs.Few.{few_When, few_FloatBox}
+use Rattle.box_layout.proofs.Listed.{onward, rows_split, columns_split, shown_part, boxed_part}
 use Rattle.box_layout.proofs.Placing.{boxes_HSplit, boxes_VSplit, boxes_Window, boxes_shown, boxes_absent, box_none}
 use Rattle.box_layout.proofs.Turns.{begun_more, begun_same, begun_ends, begun_all, moved, has_size, size_at, lengths_more, lengths_same, room_more, room_same}
 use Rattle.box_layout.proofs.boxes.Placing.+placing.Goals as goal
@@ -20,21 +20,13 @@ use Rattle.box_layout.proofs.boxes.Placing.+placing.Goals.{place_parts-then-own+
 
 pub place_in-place_split-requires : goal.place_in-place_split-requires
 place_in-place_split-requires t c =
-    let children = c.in-HSplit.field-0 in
-    let is : c.args.own.now.node ≡ HSplit children = sym (ap (λ (l : Listed). l.node) c.own.view_is) ∙ c.in-HSplit.is in
-    let few = few_HSplit children (subst HasFewChildren is c.requires.few) in
-    let inner : c.args.inner.now ≡ flat_map listing children = c.requires.inner ∙ ap (λ n. flat_map listing (inside n)) is ∙ ap (flat_map listing) (inside_HSplit children) in
-    let tops_are : tops c.args.inner.now ≡ children = ap tops inner ∙ tops_listing children in
-    (omega (arith, c.decreases), (is_listing children _ inner, (subst (λ (l : List Node). length l ≤ 1000) (sym tops_are) few.0, (subst (EachChild Node HasFewChildren) (sym tops_are) few.1, c.requires.drawable))))
+    let split = rows_split _ c.in-HSplit.field-0 c.args.inner.now (sym (ap (λ (l : Listed). l.node) c.own.view_is) ∙ c.in-HSplit.is) c.requires.few c.requires.inner in
+    (omega (arith, c.decreases), (split.listing, (split.few, (split.each, c.requires.drawable))))
 
 pub place_in-place_split-requires-in-VSplit : goal.place_in-place_split-requires-in-VSplit
 place_in-place_split-requires-in-VSplit t c =
-    let children = c.in-VSplit.field-0 in
-    let is : c.args.own.now.node ≡ VSplit children = sym (ap (λ (l : Listed). l.node) c.own.view_is) ∙ c.in-VSplit.is in
-    let few = few_VSplit children (subst HasFewChildren is c.requires.few) in
-    let inner : c.args.inner.now ≡ flat_map listing children = c.requires.inner ∙ ap (λ n. flat_map listing (inside n)) is ∙ ap (flat_map listing) (inside_VSplit children) in
-    let tops_are : tops c.args.inner.now ≡ children = ap tops inner ∙ tops_listing children in
-    (omega (arith, c.decreases), (is_listing children _ inner, (subst (λ (l : List Node). length l ≤ 1000) (sym tops_are) few.0, (subst (EachChild Node HasFewChildren) (sym tops_are) few.1, c.requires.drawable))))
+    let split = columns_split _ c.in-VSplit.field-0 c.args.inner.now (sym (ap (λ (l : Listed). l.node) c.own.view_is) ∙ c.in-VSplit.is) c.requires.few c.requires.inner in
+    (omega (arith, c.decreases), (split.listing, (split.few, (split.each, c.requires.drawable))))
 
 pub place_in-returns-then-not-shown : goal.place_in-returns-then-not-shown
 place_in-returns-then-not-shown t c =
@@ -68,21 +60,17 @@ place_in-place_in-requires-in-FloatBox t c =
 
 pub place_in-returns-in_ok-fits-in-HSplit : goal.place_in-returns-in_ok-fits-in-HSplit
 place_in-returns-in_ok-fits-in-HSplit t c =
-    let children = c.in-HSplit.field-0 in
-    let is : c.args.own.now.node ≡ HSplit children = sym (ap (λ (l : Listed). l.node) c.own.view_is) ∙ c.in-HSplit.is in
-    let inner : c.args.inner.now ≡ flat_map listing children = c.requires.inner ∙ ap (λ n. flat_map listing (inside n)) is ∙ ap (flat_map listing) (inside_HSplit children) in
-    let tops_are : tops c.args.inner.now ≡ children = ap tops inner ∙ tops_listing children in
     let done = c.args.self.now.done in
-    adds_by _ _ _ _ _ _ (ap (SplitGives Node (λ x. x) (Boxes done) done false) tops_are ∙ sym (ap (Boxes done) is ∙ boxes_HSplit done children)) c.in_ok-fits-in-HSplit.ensures
+    let is : c.args.own.now.node ≡ HSplit c.in-HSplit.field-0 = sym (ap (λ (l : Listed). l.node) c.own.view_is) ∙ c.in-HSplit.is in
+    let split = rows_split _ c.in-HSplit.field-0 c.args.inner.now is c.requires.few c.requires.inner in
+    adds_by _ _ _ _ _ _ (ap (SplitGives Node (λ x. x) (Boxes done) done false) split.tops_are ∙ sym (ap (Boxes done) is ∙ boxes_HSplit done c.in-HSplit.field-0)) c.in_ok-fits-in-HSplit.ensures
 
 pub place_in-returns-in_ok-fits-in-VSplit : goal.place_in-returns-in_ok-fits-in-VSplit
 place_in-returns-in_ok-fits-in-VSplit t c =
-    let children = c.in-VSplit.field-0 in
-    let is : c.args.own.now.node ≡ VSplit children = sym (ap (λ (l : Listed). l.node) c.own.view_is) ∙ c.in-VSplit.is in
-    let inner : c.args.inner.now ≡ flat_map listing children = c.requires.inner ∙ ap (λ n. flat_map listing (inside n)) is ∙ ap (flat_map listing) (inside_VSplit children) in
-    let tops_are : tops c.args.inner.now ≡ children = ap tops inner ∙ tops_listing children in
     let done = c.args.self.now.done in
-    adds_by _ _ _ _ _ _ (ap (SplitGives Node (λ x. x) (Boxes done) done true) tops_are ∙ sym (ap (Boxes done) is ∙ boxes_VSplit done children)) c.in_ok-fits-in-VSplit.ensures
+    let is : c.args.own.now.node ≡ VSplit c.in-VSplit.field-0 = sym (ap (λ (l : Listed). l.node) c.own.view_is) ∙ c.in-VSplit.is in
+    let split = columns_split _ c.in-VSplit.field-0 c.args.inner.now is c.requires.few c.requires.inner in
+    adds_by _ _ _ _ _ _ (ap (SplitGives Node (λ x. x) (Boxes done) done true) split.tops_are ∙ sym (ap (Boxes done) is ∙ boxes_VSplit done c.in-VSplit.field-0)) c.in_ok-fits-in-VSplit.ensures
 
 pub place_in-returns-in_ok-push-in-Window : goal.place_in-returns-in_ok-push-in-Window
 place_in-returns-in_ok-push-in-Window t c =
