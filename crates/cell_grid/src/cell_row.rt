@@ -5,9 +5,9 @@ ghost use Rattle.cell_grid.specs.TextCells.{joined_last};
 
 use crate::row_edits::lay_cells;
 use crate::{Cell, NoMemory};
+use sequences::{Item, Sequence};
 use std::alloc::Global;
 use std::marker::Model;
-use text_doc::{Item, Sequence};
 
 /// A list of rows.
 pub type CellRows = Sequence<CellRow>;

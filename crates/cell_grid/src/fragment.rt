@@ -1,5 +1,5 @@
 use crate::Attrs;
-use text_doc::Text;
+use sequences::Text;
 
 /// A part of a line of text that is drawn with the same attributes.
 #[derive(Debug, Drop)]

@@ -2,10 +2,10 @@ ghost use Rattle.std.specs.Prelude.{◌≡◌, length};
 ghost use Rattle.cell_grid.specs.Cell.{IsLead, spread};
 
 use super::*;
+use sequences::{Sequence, Text};
 use std::alloc::Global;
 use std::process::Abort;
 use std::test::Fail;
-use text_doc::{Sequence, Text};
 
 fn bold() -> Attrs {
     Attrs {

@@ -1,12 +1,12 @@
 //! A completion, seen as its fields.
 ghost use Rattle.std.specs.Prelude.{◌≡◌, IfOk};
 
-use crate::{Item, NoMemory, Sequence};
+use crate::{Item, NoMemory, Sequence, Text};
 
 /// A text to put in place of the `back` characters before the cursor.
 #[derive(Debug, Drop)]
 pub struct Completion {
-    pub text: Sequence<char>,
+    pub text: Text,
     pub back: usize,
 }
 
@@ -22,6 +22,9 @@ impl Completion {
         })
     }
 }
+
+/// A list of completions.
+pub type Completions = Sequence<Completion>;
 
 impl Item for Completion {
     fn copied(&self) -> Result<Self, NoMemory> {

@@ -60,7 +60,7 @@ impl Doc {
         ensures document { self.new ≡ record { text = text.old; cursor = cursor; mark = None } }
         ensures text { text.new ≡ self.old.text }
     {
-        text.exchange_items(&mut self.chars);
+        text.exchange(&mut self.chars);
         self.cursor = cursor;
         self.mark = None;
     }

@@ -1,5 +1,5 @@
 //! Places worked out by hand, edits, copies, and each call that allocates once with ample memory.
-use crate::{Bytes, Completion, Completions, Doc, InsertFault, Lines, MAX_LENGTH, Text};
+use crate::{Completion, Completions, Doc, InsertFault, MAX_LENGTH, Text};
 use std::alloc::Global;
 use std::process::Abort;
 use std::test::Fail;
@@ -195,24 +195,8 @@ fn sameness_and_limit(rt: HostRuntime) -> Result<(), Fail> {
 }
 
 #[test]
-fn lists(rt: HostRuntime) -> Result<(), Fail> {
+fn completion_lists(rt: HostRuntime) -> Result<(), Fail> {
     let text = Text::from_chars(rt.alloc(), &['é', '\u{3000}'])?;
-    assert_eq!(rt; text.copy()?.as_slice(), text.as_slice());
-    assert_eq!(rt; text.get(1), Some(&'\u{3000}'));
-    assert_eq!(rt; text.get(2), None);
-    let mut bytes = Bytes::from_slice(rt.alloc(), &[0xc3])?;
-    bytes.push(0xa9)?;
-    bytes.extend_from_slice(&[0xe3, 0x80, 0x80])?;
-    assert_eq!(rt; text.to_utf8()?.as_slice(), bytes.as_slice());
-    assert_eq!(rt; bytes.copy()?.as_slice(), bytes.as_slice());
-    let mut lines = Lines::new(rt.alloc());
-    lines.push(text.copy()?)?;
-    lines.push(Text::new(rt.alloc()))?;
-    let copy = lines.copy()?;
-    assert_eq!(rt; copy.len(), 2);
-    for line in copy.as_slice() {
-        assert!(rt; line.is_empty() || line.equals(text.as_slice()));
-    }
     let mut completions = Completions::new(rt.alloc());
     completions.push(Completion { text, back: 3 })?;
     for completion in completions.copy()?.as_slice() {

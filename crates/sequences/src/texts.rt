@@ -1,7 +1,7 @@
-//! Texts, bytes, and lists of texts and of completions.
+//! Texts, bytes, and lists of texts.
 ghost use Rattle.std.specs.Prelude.{◌≡◌, ◌<◌, ◌↔◌, IfOk, IsTrue, chars, encode_utf8_all, length, slice_index};
 
-use crate::{Completion, NoMemory, Sequence};
+use crate::{NoMemory, Sequence};
 use std::alloc::Global;
 
 /// A list of characters.
@@ -12,9 +12,6 @@ pub type Bytes = Sequence<u8>;
 
 /// A list of texts.
 pub type Lines = Sequence<Text>;
-
-/// A list of completions.
-pub type Completions = Sequence<Completion>;
 
 impl Sequence<char> {
     /// Returns a text of these characters.

@@ -1,6 +1,6 @@
 use Rattle.std.proofs.Common.{rules}
 use Rattle.std.proofs.lemmas.Str.{chars_from_encodes}
-use Rattle.text_doc.proofs.texts.Sequence+char.read_str.Goals as goal
+use Rattle.sequences.proofs.texts.Sequence+char.read_str.Goals as goal
 
 pub returns : goal.returns
 returns c = search (rules, chars_from_encodes)

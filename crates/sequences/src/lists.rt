@@ -1,29 +1,10 @@
 //! `Sequence`, a list of items of one kind. A clause sees it as the list of its items.
-ghost use Rattle.std.specs.Prelude.{◌≡◌, ◌<◌, ◌↔◌, [], ◌∷◌, ◌++◌, List, length, take, slice_get, option_copied, IsSome, IsTrue, IfOk, OnOk, OnErr};
+ghost use Rattle.std.specs.Prelude.{◌≡◌, ◌<◌, ◌↔◌, [], ◌∷◌, ◌++◌, List, length, take, slice_get, option_copied, option_to_list, IsSome, IsTrue, IfOk, OnOk, OnErr};
 
-use crate::NoMemory;
+use crate::{Item, NoMemory, Queue};
 use std::alloc::Global;
 use std::marker::Model;
 use std::mem;
-
-/// What a `Sequence` can hold and copy.
-pub trait Item: Drop {
-    /// Returns a value equal to this one.
-    fn copied(&self) -> Result<Self, NoMemory>
-        ensures { IfOk result (λ copy. copy ≡ self.now) };
-}
-
-impl Item for char {
-    fn copied(&self) -> Result<Self, NoMemory> {
-        Ok(*self)
-    }
-}
-
-impl Item for u8 {
-    fn copied(&self) -> Result<Self, NoMemory> {
-        Ok(*self)
-    }
-}
 
 /// A list of items.
 #[derive(Debug, Drop)]
@@ -62,8 +43,8 @@ impl<T: Drop> Sequence<T> {
         items
     }
 
-    // The list takes these items in exchange for its own.
-    pub(crate) fn exchange_items(&mut self, items: &mut Vec<T>)
+    /// Takes these items in exchange for its own.
+    pub fn exchange(&mut self, items: &mut Vec<T>)
         ensures list { self.new ≡ items.old.items }
         ensures items { items.new.items ≡ self.old }
     {
@@ -108,6 +89,28 @@ impl<T: Drop> Sequence<T> {
         Ok(())
     }
 
+    /// Takes the last item out.
+    pub fn pop(&mut self) -> Option<T>
+        ensures items { self.old ≡ self.new ++ option_to_list result }
+        ensures some { IsSome result ↔ (0 < length self.old) }
+    {
+        self.items.pop()
+    }
+
+    /// Drops the items from the place `len` on, if there are any.
+    pub fn truncate(&mut self, len: usize)
+        ensures { self.new ≡ take len self.old }
+    {
+        self.items.truncate(len);
+    }
+
+    /// Returns the items, to be taken from the front by value, in the memory of the list.
+    pub fn into_queue(self) -> Queue<T>
+        ensures { result ≡ self }
+    {
+        Queue::from_list(self)
+    }
+
     /// Returns the allocator of the list.
     pub fn allocator(&self) -> Global {
         *self.items.allocator()
@@ -145,7 +148,7 @@ impl<T: Item> Sequence<T> {
     pub fn copy(&self) -> Result<Self, NoMemory>
         ensures { IfOk result (λ copy. copy ≡ self.now) }
     {
-        let items = copied_items(self.allocator(), self.items.as_slice())?;
+        let items = T::copied_all(self.allocator(), self.items.as_slice())?;
         Ok(Sequence { items })
     }
 }
@@ -154,14 +157,4 @@ impl<T: Item> Item for Sequence<T> {
     fn copied(&self) -> Result<Self, NoMemory> {
         self.copy()
     }
-}
-
-fn copied_items<T: Item>(alloc: Global, items: &[T]) -> Result<Vec<T>, NoMemory>
-    ensures { IfOk result (λ copies. copies.items ≡ items.now) }
-{
-    let mut copies = Vec::with_capacity(alloc, items.len())?;
-    for item in items {
-        copies.push(item.copied()?)?;
-    }
-    Ok(copies)
 }
