@@ -11,11 +11,11 @@ use Rattle.key_names.specs.declared.key.Key.{Key}
 use Rattle.key_names.specs.declared.key.KeyPress.{KeyPress}
 use Rattle.vt_input.specs.declared.pasted.PastedText.{PastedText}
 use Rattle.vt_input.specs.declared.row.SeqRow.{SeqRow}
-use Rattle.vt_input.specs.Cut.{Cut}
+use Rattle.characters.specs.Cut.{Cut}
 use Rattle.vt_input.specs.Sequences.{is_prefix}
 use Rattle.vt_input.specs.Pressed.{opening, end_place, pasted, paste_press, paste_by, opens, waits, chosen, decision, press_by, first_by, first_key, keys_of}
 use Rattle.vt_input.specs.Held.{Paste, Held, Fed, nothing, begun, step, Went, still, over, went_by, went, held_still, held_by, held_of, fed_cut, press_first, fed_went, fed_by, with_presses}
-use Rattle.vt_input.proofs.CutLemmas.{cut-append, cut-step, cut-waits, Waits, Waits-cut_behind, rest-nil}
+use Rattle.characters.proofs.CutLemmas.{cut-append, cut-step, cut-waits, Waits, Waits-cut_behind, rest-nil}
 use Rattle.vt_input.proofs.KeyLemmas.{first_key-stable, first_key-flush, end_place-none, Takes-chosen}
 use Rattle.vt_input.proofs.PasteLemmas.{went_then, went-append, WentIs, went-is, pasted-is}
 

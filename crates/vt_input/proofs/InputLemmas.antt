@@ -5,14 +5,14 @@ use Rattle.std.proofs.lemmas.Bool.{cases_Bool}
 use Rattle.std.specs.Prelude.{is_some}
 use Rattle.key_names.specs.declared.key.KeyPress.{KeyPress}
 use Rattle.vt_input.specs.declared.row.SeqRow.{SeqRow}
-use Rattle.vt_input.specs.Cut.{Cut}
-use Rattle.vt_input.specs.Characters.{first_char, characters, unfinished_char}
+use Rattle.characters.specs.Cut.{Cut}
+use Rattle.characters.specs.Characters.{first_char, characters, unfinished_char}
 use Rattle.vt_input.specs.Sequences.{is_prefix}
 use Rattle.vt_input.specs.Pressed.{opening, first_key, keys_of}
 use Rattle.vt_input.specs.Held.{Paste, Held, Fed, Went, held_still, held_by, held_of, fed_cut, fed_by, with_presses}
 use Rattle.vt_input.specs.Inputs.{Parsing, Input, piece, flush, fed_bytes, parsing_after, flushed_by, flushed, bytes_by, parsing_flushed, whole, stands_for, given, flushed_whole, expected_by, expected}
-use Rattle.vt_input.proofs.CutLemmas.{cut-append, cut_then, Waits, Waits-cut_behind}
-use Rattle.vt_input.proofs.CharacterLemmas.{first_char-stable}
+use Rattle.characters.proofs.CutLemmas.{cut-append, cut_then, Waits, Waits-cut_behind}
+use Rattle.characters.proofs.CharacterLemmas.{first_char-stable}
 use Rattle.vt_input.proofs.KeyLemmas.{end_place-none}
 use Rattle.vt_input.proofs.HeldLemmas.{fed_by-append, flushed-nothing, went-still}
 

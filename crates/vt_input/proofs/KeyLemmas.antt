@@ -12,7 +12,7 @@ use Rattle.vt_input.specs.declared.sequence.ControlSequence.TheVariants.{Unended
 use Rattle.vt_input.specs.declared.row.SeqRow.{SeqRow}
 use Rattle.vt_input.specs.Sequences.{is_prefix, is_proper_prefix, introducer, control_sequence, is_begun, is_known, is_short, longest_from}
 use Rattle.vt_input.specs.Pressed.{opening, ending, end_place, pasted, paste_press, is_open, waits, chosen_by, chosen, decision, press_by, paste_by, opens, first_by, first_key}
-use Rattle.vt_input.proofs.CutLemmas.{IsStable}
+use Rattle.characters.proofs.CutLemmas.{IsStable}
 use Rattle.vt_input.proofs.SequenceLemmas.{or_parts, or-both, is_prefix-more, is_proper_prefix-more, is_prefix-append, length-is_prefix, length-is_proper_prefix, is_begun-more, is_known-more, length-is_begun, longest_from-more, proper_prefix-long, Takes, Takes-longest_from, control_sequence-more, IfWhole, whole-within, length-is_open}
 
 -- no two facts of a pair of tests hold at once with nothing behind

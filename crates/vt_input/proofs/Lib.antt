@@ -1,9 +1,6 @@
-pub mod CharacterLemmas
-pub mod CutLemmas
 pub mod HeldLemmas
 pub mod InputLemmas
 pub mod KeyLemmas
-pub mod LossyLemmas
 pub mod NearLemmas
 pub mod PasteLemmas
 pub mod SequenceLemmas

@@ -3,11 +3,12 @@ use Rattle.std.proofs.Common.{◌≡◌, ℕ, ◌+◌, ◌<◌, ◌≤◌, Bool,
 use Rattle.std.specs.Prelude.{◌==◌, ◌&&◌, ◌||◌, nat_le}
 use Rattle.std.proofs.lemmas.Bool.{cases_Bool, cond-true, cond-false, and_parts}
 use Rattle.std.proofs.lemmas.Bool.Decides.{nat_tests}
+use Rattle.characters.specs.ControlCharacters.{is_final}
 use Rattle.key_names.specs.declared.key.Key.{Key}
 use Rattle.vt_input.specs.declared.sequence.ControlSequence.{ControlSequence}
 use Rattle.vt_input.specs.declared.sequence.ControlSequence.TheVariants.{Unended, Whole, Broken}
 use Rattle.vt_input.specs.declared.row.SeqRow.{SeqRow}
-use Rattle.vt_input.specs.Sequences.{is_prefix, is_proper_prefix, introducer, is_final, late_after, sequence_limit, sequence_on, sequence_from, control_sequence, is_begun, is_known, is_short, longer, longest_from}
+use Rattle.vt_input.specs.Sequences.{is_prefix, is_proper_prefix, introducer, late_after, sequence_limit, sequence_on, sequence_from, control_sequence, is_begun, is_known, is_short, longer, longest_from}
 use Rattle.vt_input.specs.Pressed.{is_open}
 
 -- either both, or the first decides

@@ -6,12 +6,12 @@ use Rattle.std.proofs.lemmas.Bool.Decides.{nat_tests}
 use Rattle.bstr.specs.Utf8.{decoded, lead_len, or_replacement}
 use Rattle.vt_input.specs.declared.pasted.PastedText.{PastedText}
 use Rattle.vt_input.specs.declared.row.SeqRow.{SeqRow}
-use Rattle.vt_input.specs.Characters.{is_unfinished, first_char, characters, unfinished_char}
+use Rattle.characters.specs.Characters.{is_unfinished, first_char, characters, unfinished_char}
 use Rattle.vt_input.specs.Sequences.{is_prefix, is_short}
 use Rattle.vt_input.specs.Pressed.{opening, ending, paste_limit, first_key, keys_of}
 use Rattle.vt_input.specs.Held.{Paste, Held, Fed, nothing, begun, add_all, missed_by, step_by, step, Went, still, over, went_by, went, held_still, held_by, held_of, fed_cut, fed_went, fed_by}
 use Rattle.vt_input.specs.Inputs.{Parsing, IsSmall, parsing_after, flushed_by, bytes_by, parsing_flushed, stands_for}
-use Rattle.vt_input.proofs.CutLemmas.{Waits, Waits-cut_behind}
+use Rattle.characters.proofs.CutLemmas.{Waits, Waits-cut_behind}
 use Rattle.vt_input.proofs.KeyLemmas.{waits-none, length-waits}
 use Rattle.vt_input.proofs.PasteLemmas.{length-add, length-add_all}
 use Rattle.vt_input.proofs.HeldLemmas.{flushed-nothing}

@@ -3,7 +3,7 @@ use Rattle.std.specs.Prelude.{ℕ, ◌+◌, Bool, true, false, List, [], ◌∷�
 use Rattle.key_names.specs.declared.key.KeyPress.{KeyPress}
 use Rattle.vt_input.specs.declared.pasted.PastedText.{PastedText}
 use Rattle.vt_input.specs.declared.row.SeqRow.{SeqRow}
-use Rattle.vt_input.specs.Cut.{Cut}
+use Rattle.characters.specs.Cut.{Cut}
 use Rattle.vt_input.specs.Sequences.{is_prefix}
 use Rattle.vt_input.specs.Pressed.{opening, ending, paste_limit, paste_press, keys_of}
 

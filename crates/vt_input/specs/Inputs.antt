@@ -2,8 +2,8 @@
 use Rattle.std.specs.Prelude.{ℕ, ◌≤◌, Bool, true, false, List, [], ◌∷◌, ◌++◌, length, Option, Some, None, IfSome, is_none, ◌&&◌, not, ◌==◌}
 use Rattle.key_names.specs.declared.key.KeyPress.{KeyPress}
 use Rattle.vt_input.specs.declared.row.SeqRow.{SeqRow}
-use Rattle.vt_input.specs.Cut.{Cut}
-use Rattle.vt_input.specs.Characters.{characters, unfinished_char}
+use Rattle.characters.specs.Cut.{Cut}
+use Rattle.characters.specs.Characters.{characters, unfinished_char}
 use Rattle.vt_input.specs.Sequences.{is_prefix}
 use Rattle.vt_input.specs.Pressed.{opening, keys_of}
 use Rattle.vt_input.specs.Held.{Paste, Held, Fed, held_of, fed_by}

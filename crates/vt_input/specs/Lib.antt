@@ -1,5 +1,3 @@
-pub mod Characters
-pub mod Cut
 pub mod Held
 pub mod Inputs
 pub mod Known

@@ -7,7 +7,7 @@ use Rattle.key_names.specs.declared.key.KeyPress.{KeyPress}
 use Rattle.vt_input.specs.declared.sequence.ControlSequence.{ControlSequence}
 use Rattle.vt_input.specs.declared.sequence.ControlSequence.TheVariants.{Unended, Whole, Broken}
 use Rattle.vt_input.specs.declared.row.SeqRow.{SeqRow}
-use Rattle.vt_input.specs.Cut.{Cut, First, cut_of}
+use Rattle.characters.specs.Cut.{Cut, First, cut_of}
 use Rattle.vt_input.specs.Sequences.{is_prefix, is_proper_prefix, control_sequence, is_begun, is_known, longest_from}
 
 -- ESC [ 200 ~ and ESC [ 201 ~, the marks round a paste (xterm, bracketed paste mode)

@@ -1,6 +1,7 @@
 -- What a contract sees of sequences: fronts of texts, control sequences (ECMA-48, 5.4), and the rows of a table.
 use Rattle.std.specs.Prelude.{◌≡◌, ℕ, ◌+◌, Bool, true, false, List, [], ◌∷◌, length, drop, Option, Some, None, nat_le, nat_lt, ◌==◌, ◌&&◌, ◌||◌, not, if◌then◌else◌}
 use Rattle.std.specs.List.{list_any, list_all}
+use Rattle.characters.specs.ControlCharacters.{is_parameter, is_intermediate, is_final}
 use Rattle.key_names.specs.declared.key.Key.{Key}
 use Rattle.vt_input.specs.declared.sequence.ControlSequence.{ControlSequence}
 use Rattle.vt_input.specs.declared.sequence.ControlSequence.TheVariants.{Unended, Whole, Broken}
@@ -25,15 +26,6 @@ sequence_limit = 64
 -- ESC [, which introduces a control sequence
 abbrev pub introducer : List ℕ
 introducer = 27 ∷ 91 ∷ []
-
-abbrev pub is_parameter : ℕ → Bool
-is_parameter c = nat_le 0x30 c && nat_le c 0x3F
-
-abbrev pub is_intermediate : ℕ → Bool
-is_intermediate c = nat_le 0x20 c && nat_le c 0x2F
-
-abbrev pub is_final : ℕ → Bool
-is_final c = nat_le 0x40 c && nat_le c 0x7E
 
 -- a character before the final one, and whether an intermediate one has come then: behind one no parameter stands
 abbrev pub late_after : ℕ → Bool → Option Bool

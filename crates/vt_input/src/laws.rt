@@ -1,9 +1,7 @@
 //! Laws of the parser, over every table, every list of bytes and every list of pieces and flushes. The functions do nothing:
 //! the contract of each is the law.
 ghost use Rattle.std.specs.Prelude.{◌≡◌, ℕ, List, [], ◌++◌, true};
-ghost use Rattle.bstr.specs.Utf8.{lossy_chars};
 ghost use Rattle.vt_input.specs.declared.row.SeqRow.{SeqRow};
-ghost use Rattle.vt_input.specs.Characters.{characters, unfinished_char};
 ghost use Rattle.vt_input.specs.Sequences.{is_short};
 ghost use Rattle.vt_input.specs.Pressed.{keys_of};
 ghost use Rattle.vt_input.specs.Inputs.{Parsing, Input, IsSmall, fed_bytes, parsing_after, stands_for, given, expected};
@@ -33,10 +31,4 @@ pub fn flush_leaves_nothing()
 /// What a parser keeps has a bound, whatever it has read: 3 bytes, 63 characters, and 32,769 characters of a paste.
 pub fn keeps_little()
     ensures { (rows : List SeqRow) (bytes : List ℕ) → is_short rows ≡ true → IsSmall (stands_for rows bytes) }
-{}
-
-/// Decoding is that of the whole bytes with one U+FFFD for each maximal part that is no character, the unfinished rest
-/// included.
-pub fn decodes_whole_bytes()
-    ensures { (bytes : List ℕ) → (characters bytes).items ++ unfinished_char (characters bytes).rest ≡ lossy_chars bytes }
 {}

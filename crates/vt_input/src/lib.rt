@@ -3,7 +3,6 @@
 
 mod cutter;
 mod decide;
-mod decode;
 mod front;
 mod keys;
 pub mod laws;

@@ -1,12 +1,12 @@
 //! A parser of key presses, fed with pieces of bytes.
 ghost use Rattle.std.specs.Prelude.{◌≡◌, ◌≤◌, ◌++◌, drop, vec_len, OnOk};
-ghost use Rattle.vt_input.specs.Characters.{unfinished_char};
+ghost use Rattle.characters.specs.Characters.{unfinished_char};
 
 use crate::cutter::Cutter;
-use crate::decode::decode_into;
 use crate::keys::Keys;
 use crate::paste::OpenPaste;
 use crate::table::SeqTable;
+use characters::decode_into;
 use std::alloc::{AllocError, Global};
 use std::marker::Model;
 
@@ -31,7 +31,7 @@ impl<const N: usize> Model for Parser<N> {
 
 impl<const N: usize> Parser<N> {
     ghost use Rattle.std.specs.Prelude.{◌≡◌, [], ◌++◌, true, is_some, IfOk, OnOk};
-    ghost use Rattle.vt_input.specs.Characters.{unfinished_char};
+    ghost use Rattle.characters.specs.Characters.{unfinished_char};
     ghost use Rattle.vt_input.specs.Sequences.{is_short};
     ghost use Rattle.vt_input.specs.Held.{fed_by};
     ghost use Rattle.vt_input.specs.Inputs.{IsSmall, decoded_after, finished, fed_bytes, parsing_after, flushed, parsing_flushed, has_waiting, stands_for};

@@ -1,6 +1,8 @@
 //! Control sequences (ECMA-48, 5.4) at the front of a text.
 ghost use Rattle.std.specs.Prelude.{◌≡◌};
-ghost use Rattle.vt_input.specs.Sequences.{is_prefix, introducer, is_final, late_after, control_sequence};
+ghost use Rattle.vt_input.specs.Sequences.{is_prefix, introducer, late_after, control_sequence};
+
+use characters::{is_final, is_intermediate, is_parameter};
 
 /// What the front of a text is, seen as a control sequence of at most 64 characters.
 #[derive(Clone, Copy, Debug, PartialEq, Eq)]
@@ -49,19 +51,13 @@ fn is_introduced(text: &[char]) -> bool
     text.len() >= 2 && text[0] == '\u{1B}' && text[1] == '['
 }
 
-fn is_final(c: char) -> bool
-    ensures { result ≡ is_final c }
-{
-    '\u{40}' <= c && c <= '\u{7E}'
-}
-
 // Whether an intermediate character has come with this one; none where it cannot stand here.
 fn late_after(c: char, late: bool) -> Option<bool>
     ensures { result ≡ late_after c late }
 {
-    if '\u{20}' <= c && c <= '\u{2F}' {
+    if is_intermediate(c) {
         Some(true)
-    } else if '\u{30}' <= c && c <= '\u{3F}' && !late {
+    } else if is_parameter(c) && !late {
         Some(false)
     } else {
         None

@@ -1,6 +1,6 @@
 use Rattle.std.proofs.Common.{true}
 use Rattle.vt_input.specs.Pressed.{first_key}
-use Rattle.vt_input.proofs.CutLemmas.{rest-nil}
+use Rattle.characters.proofs.CutLemmas.{rest-nil}
 use Rattle.vt_input.proofs.KeyLemmas.{first_key-flush}
 use Rattle.vt_input.proofs.laws.flush_leaves_nothing.Goals as goal
 

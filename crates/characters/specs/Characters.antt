@@ -2,7 +2,7 @@
 -- maximal part that is none, and the unfinished character at the end.
 use Rattle.std.specs.Prelude.{ℕ, ◌-◌, Bool, List, [], ◌∷◌, length, Some, None, is_none, slice_index, nat_lt, ◌==◌, ◌&&◌, if◌then◌else◌}
 use Rattle.bstr.specs.Utf8.{Decoded, decoded, lead_len, or_replacement, replacement}
-use Rattle.vt_input.specs.Cut.{Cut, First, cut_of}
+use Rattle.characters.specs.Cut.{Cut, First, cut_of}
 
 -- of n bytes that begin with b and decode to p: they are all the front of one character, and it needs more
 abbrev pub is_unfinished_by : Decoded → ℕ → ℕ → Bool

@@ -6,9 +6,9 @@ use Rattle.std.proofs.lemmas.Bool.{cases_Bool, eqb-true, and_parts}
 use Rattle.std.proofs.lemmas.List.{drop_all}
 use Rattle.bstr.specs.Utf8.{decoded, lead_len, replacement, or_replacement, lossy_chars}
 use Rattle.bstr.proofs.lemmas.PieceLemmas.{piece-bounds, lossy_chars-step, lossy_chars-nil}
-use Rattle.vt_input.specs.Cut.{Cut}
-use Rattle.vt_input.specs.Characters.{is_unfinished, characters, unfinished_char}
-use Rattle.vt_input.proofs.CharacterLemmas.{characters-step, characters-waits}
+use Rattle.characters.specs.Cut.{Cut}
+use Rattle.characters.specs.Characters.{is_unfinished, characters, unfinished_char}
+use Rattle.characters.proofs.CharacterLemmas.{characters-step, characters-waits}
 
 abbrev read : Cut ℕ → List ℕ
 read cut = cut.items ++ unfinished_char cut.rest
@@ -18,7 +18,7 @@ none_is None e = refl
 none_is (Some c) e = absurd (cc)
 
 -- an unfinished character is one U+FFFD
-waiting_lossy : (b : ℕ) (bs : List ℕ) → is_unfinished (b ∷ bs) ≡ true → replacement ∷ [] ≡ lossy_chars (b ∷ bs)
+pub waiting_lossy : (b : ℕ) (bs : List ℕ) → is_unfinished (b ∷ bs) ≡ true → replacement ∷ [] ≡ lossy_chars (b ∷ bs)
 waiting_lossy b bs e =
     let x = b ∷ bs in
     let p = decoded x in

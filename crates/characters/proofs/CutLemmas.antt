@@ -1,7 +1,7 @@
 -- Cutting a list in two pieces is cutting it whole.
 use Prim.Native.Nat.{zero, suc}
 use Rattle.std.proofs.Common.{◌≡◌, ℕ, ◌≤◌, List, [], ◌∷◌, ◌++◌, length, drop, Option, Some, None, refl, sym, ap, ◌∙◌, arith}
-use Rattle.vt_input.specs.Cut.{Cut, First, waiting, put_first, cut_by, cut_behind, cut_of}
+use Rattle.characters.specs.Cut.{Cut, First, waiting, put_first, cut_by, cut_behind, cut_of}
 
 -- an item takes no more than there is, and what is decided stays decided
 pub record IsStable {K : Type 0} (first : First K) : Type 0 where

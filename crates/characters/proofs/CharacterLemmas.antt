@@ -6,9 +6,9 @@ use Rattle.std.proofs.lemmas.Bool.Decides.{nat_tests}
 use Rattle.std.proofs.lemmas.List.{get_or_append_left}
 use Rattle.bstr.specs.Utf8.{Decoded, bad, good, decoded, decoded_by, continues, second, code_of_2, code_of_3, code_of_4, lead_len, or_replacement}
 use Rattle.bstr.proofs.lemmas.PieceLemmas.{by-shape, value-1, value-2, value-3, value-5, value-6, value-8, value-9, value-11, value-12, piece-bounds}
-use Rattle.vt_input.specs.Cut.{Cut, waiting, put_first}
-use Rattle.vt_input.specs.Characters.{is_unfinished_by, is_unfinished, first_char, characters}
-use Rattle.vt_input.proofs.CutLemmas.{IsStable, cut-step, cut-waits}
+use Rattle.characters.specs.Cut.{Cut, waiting, put_first}
+use Rattle.characters.specs.Characters.{is_unfinished_by, is_unfinished, first_char, characters}
+use Rattle.characters.proofs.CutLemmas.{IsStable, cut-step, cut-waits}
 
 needs_more : (k n b : ℕ) → k ≡ n → n < lead_len b → is_unfinished_by (bad k) n b ≡ true
 needs_more k n b all few = grind (arith, nat_tests)
@@ -63,7 +63,7 @@ is_unfinished_by-more p n m b fits le whole = ⊎_elim
     (λ (other : m ≢ n). grind (arith, nat_tests))
     (cases_eq m n)
 
-decoded-more : (b : ℕ) (bs more : List ℕ) → is_unfinished (b ∷ bs) ≡ false → decoded (b ∷ bs ++ more) ≡ decoded (b ∷ bs)
+pub decoded-more : (b : ℕ) (bs more : List ℕ) → is_unfinished (b ∷ bs) ≡ false → decoded (b ∷ bs ++ more) ≡ decoded (b ∷ bs)
 decoded-more b bs more whole =
     let at = λ (k : ℕ) (l : k < length (b ∷ bs)). get_or_append_left (b ∷ bs) more 0 k l in
     decoded_by-more (length (b ∷ bs)) (length (b ∷ bs ++ more)) b (slice_index (b ∷ bs) 1) (slice_index (b ∷ bs) 2) (slice_index (b ∷ bs) 3)

@@ -1,7 +1,7 @@
 //! Characters from bytes.
 ghost use Rattle.std.specs.Prelude.{◌≡◌, ◌<◌, ◌≤◌, ◌++◌, length, drop, slice_index, nat_lt, ◌==◌, ◌&&◌, true, false, IfSome, IfNone, OnSome, IfOk, OnOk};
 ghost use Rattle.bstr.specs.Utf8.{lead_len, decoded, or_replacement};
-ghost use Rattle.vt_input.specs.Characters.{characters, is_unfinished};
+ghost use Rattle.characters.specs.Characters.{characters, is_unfinished};
 
 use bstr::decode_utf8;
 use std::alloc::AllocError;

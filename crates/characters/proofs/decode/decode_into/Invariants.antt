@@ -1,6 +1,6 @@
 use Rattle.std.proofs.Common.{◌≡◌, ◌≤◌, ◌-◌, ◌++◌, length, drop}
-use Rattle.vt_input.specs.Characters.{characters}
-use Rattle.vt_input.proofs.decode.decode_into.Given as goal
+use Rattle.characters.specs.Characters.{characters}
+use Rattle.characters.proofs.decode.decode_into.Given as goal
 
 abbrev pub invariant-loop-c : goal.invariant-loop-c
 invariant-loop-c l = record {

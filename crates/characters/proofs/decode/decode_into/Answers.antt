@@ -1,7 +1,7 @@
 use Rattle.std.proofs.Common.{◌∙◌, arith}
 use Rattle.std.proofs.lemmas.List.{take_rest}
-use Rattle.vt_input.proofs.CharacterLemmas.{ReadsOne-from}
-use Rattle.vt_input.proofs.decode.decode_into.Goals as goal
+use Rattle.characters.proofs.CharacterLemmas.{ReadsOne-from}
+use Rattle.characters.proofs.decode.decode_into.Goals as goal
 
 pub overflow_add-at : goal.overflow_add-at
 overflow_add-at c =

@@ -1,0 +1,4 @@
+pub mod CharacterLemmas
+pub mod CutLemmas
+pub mod LossyLemmas
+pub mod UnfinishedLemmas

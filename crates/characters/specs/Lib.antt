@@ -1,0 +1,4 @@
+pub mod Characters
+pub mod ControlCharacters
+pub mod Cut
+pub mod Unfinished
