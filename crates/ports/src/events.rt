@@ -1,4 +1,4 @@
-// What comes to a session.
+//! What comes to a session.
 ghost use Rattle.std.specs.Prelude.{◌≡◌, IfOk};
 
 use cell_grid::Size;

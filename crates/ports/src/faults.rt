@@ -1,6 +1,6 @@
-// The fault of the outside, and the plan of faults that an object in memory follows.
-ghost use Rattle.std.specs.Prelude.{◌≡◌, ℕ, ◌-◌, ◌^◌, ◌≤◌, OnOk};
-ghost use Rattle.causes.specs.Faults.{HasCause, Rose};
+//! The fault of the outside, and the plan of faults that an object in memory follows.
+ghost use Rattle.std.specs.Prelude.{◌≡◌, ℕ, ◌-◌, ◌^◌, ◌≤◌, OnOk, OnErr};
+ghost use Rattle.causes.specs.Faults.{HasCause, Rose, counted};
 
 use std::marker::Model;
 use thiserror::Error;
@@ -30,7 +30,7 @@ impl Model for FailingCalls {
 }
 
 impl FailingCalls {
-    /// The calls with these numbers are to fail.
+    /// Returns a plan by which the calls with these numbers are to fail.
     pub fn new(numbers: Vec<u64>) -> FailingCalls
         ensures none_yet { result ≡ 0 }
     {
@@ -44,6 +44,7 @@ impl FailingCalls {
     /// Counts the next call, and refuses it where it is to fail.
     pub fn admit(&mut self) -> Result<(), Failed>
         ensures admitted { OnOk result (self.new ≡ self.old) }
+        ensures refused { OnErr result (self.new ≡ counted self.old) }
         ensures cause { HasCause self.old self.new result }
     {
         let fails = self.numbers.contains(&self.calls);
@@ -56,6 +57,7 @@ impl FailingCalls {
 
     /// Counts a fault, and gives it. The count stands still at its last number.
     pub fn fail(&mut self) -> Failed
+        ensures counted { self.new ≡ counted self.old }
         ensures later { self.old ≤ self.new }
         ensures rose { Rose self.old self.new }
     {
@@ -63,7 +65,7 @@ impl FailingCalls {
         Failed
     }
 
-    /// The number of calls that failed so far.
+    /// Returns the number of calls that failed so far.
     pub fn faults(&self) -> u64
         ensures { result ≡ self.now }
     {

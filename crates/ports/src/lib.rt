@@ -1,4 +1,4 @@
-//! What a prompt needs of the outside: events that come in, bytes in and out, and a screen; and such an outside in memory.
+//! What a prompt needs of the outside: bytes in and out, a terminal to enter, and a screen; and such an outside in memory.
 #![tactic(auto)]
 
 mod events;
@@ -6,9 +6,13 @@ mod faults;
 mod screens;
 mod sinks;
 mod sources;
+#[cfg(test)]
+mod tests;
+mod ttys;
 
 pub use events::Event;
 pub use faults::{Failed, FailingCalls};
 pub use screens::{MemoryScreen, Screen};
 pub use sinks::{MemorySink, Sink};
 pub use sources::{MemorySource, Source};
+pub use ttys::{Entered, MemoryTty, Mode, Tty};

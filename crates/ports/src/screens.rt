@@ -1,5 +1,6 @@
-// Where frames are shown.
-ghost use Rattle.std.specs.Prelude.{◌≡◌, ℕ, List, [], ◌∷◌, ◌++◌, map, length, OnOk, OnErr};
+//! Where frames are shown.
+ghost use Rattle.std.specs.Prelude.{◌≡◌, ℕ, List, [], ◌∷◌, ◌++◌, ◌==◌, map, length, slice_get, OnOk, OnErr};
+ghost use Rattle.std.specs.Option.{option_copied};
 ghost use Rattle.causes.specs.Faults.{HasCause};
 ghost use Rattle.ports.specs.Frames.{Frames, TakesFrame};
 
@@ -42,7 +43,7 @@ impl Model for MemoryScreen {
 }
 
 impl MemoryScreen {
-    /// A screen that took nothing yet, of which the frames with these numbers fail.
+    /// Returns a screen that took nothing yet, of which the frames with these numbers fail.
     pub fn new(alloc: Global, failing: FailingCalls) -> MemoryScreen
         ensures nothing { result.taken ≡ [] }
         ensures faults { result.faults ≡ failing }
@@ -53,11 +54,35 @@ impl MemoryScreen {
         }
     }
 
-    /// The number of frames that it took.
+    /// Returns the number of frames that it took.
     pub fn len(&self) -> usize
         ensures { result ≡ length self.now.taken }
     {
         self.frames.len()
+    }
+
+    /// Returns whether it took no frame yet.
+    pub fn is_empty(&self) -> bool
+        ensures { result ≡ (length self.now.taken == 0) }
+    {
+        self.frames.is_empty()
+    }
+
+    /// Returns the frame with this number, from 0 on. `None` where it took no such frame.
+    pub fn get(&self, number: usize) -> Option<&[u8]>
+        ensures { option_copied result ≡ slice_get self.now.taken number }
+    {
+        match self.frames.get(number) {
+            Some(frame) => Some(frame.as_slice()),
+            None => None,
+        }
+    }
+
+    /// Returns the number of frames that were refused so far, those that found no memory among them.
+    pub fn faults(&self) -> u64
+        ensures { result ≡ self.now.faults }
+    {
+        self.failing.faults()
     }
 }
 

@@ -1,4 +1,4 @@
-// Where bytes go.
+//! Where bytes go.
 ghost use Rattle.std.specs.Prelude.{◌≡◌, ℕ, List, [], Some, Option};
 ghost use Rattle.causes.specs.Faults.{HasCause};
 ghost use Rattle.ports.specs.Sink.{Puts};
@@ -35,7 +35,7 @@ impl Model for MemorySink {
 }
 
 impl MemorySink {
-    /// A sink that took nothing yet, of which the puts with these numbers fail.
+    /// Returns a sink that took nothing yet, of which the puts with these numbers fail.
     pub fn new(alloc: Global, failing: FailingCalls) -> MemorySink
         ensures nothing { result.bytes ≡ [] }
         ensures faults { result.faults ≡ failing }
@@ -46,11 +46,18 @@ impl MemorySink {
         }
     }
 
-    /// The bytes that it took, in order.
+    /// Returns the bytes that it took, in order.
     pub fn bytes(&self) -> &[u8]
         ensures { result.now ≡ self.now.bytes }
     {
         self.bytes.as_slice()
+    }
+
+    /// Returns the number of puts that failed so far, those that found no memory among them.
+    pub fn faults(&self) -> u64
+        ensures { result ≡ self.now.faults }
+    {
+        self.failing.faults()
     }
 }
 

@@ -1,4 +1,4 @@
-// Where bytes come from.
+//! Where bytes come from.
 ghost use Rattle.std.specs.Prelude.{◌≡◌, ◌+◌, ◌-◌, ◌^◌, ◌≤◌, ℕ, List, length, drop, take, min, Some};
 ghost use Rattle.std.specs.Io.{ReadsAtMost};
 ghost use Rattle.std.specs.Io.KnownBytes.{ReadConsumes};
@@ -42,7 +42,7 @@ impl Model for MemorySource {
 }
 
 impl MemorySource {
-    /// A source of these bytes, of which the reads with these numbers fail. A read that fails takes no byte.
+    /// Returns a source of these bytes, of which the reads with these numbers fail. A read that fails takes no byte.
     pub fn new(bytes: Vec<u8>, failing: FailingCalls) -> MemorySource
         ensures all_left { result.left ≡ Some bytes.items }
         ensures faults { result.faults ≡ failing }
@@ -56,7 +56,7 @@ impl MemorySource {
         }
     }
 
-    /// The number of reads that failed so far.
+    /// Returns the number of reads that failed so far.
     pub fn faults(&self) -> u64
         ensures { result ≡ self.now.faults }
     {

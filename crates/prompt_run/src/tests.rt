@@ -100,6 +100,25 @@ fn wraps_scrolls_and_resizes(rt: HostRuntime) -> Result<(), Fail> {
     Ok(())
 }
 
+/// A full text takes no further letter, and is accepted as it is.
+#[test]
+fn stays_at_a_full_text(rt: HostRuntime) -> Result<(), Fail> {
+    let mut script = String::from_str(rt.alloc(), "set size 2x1000\npiece ")?;
+    let mut end = String::from_str(rt.alloc(), "\nanswer ")?;
+    for letter in 0..32_780 {
+        script.push('a')?;
+        if letter < 32_768 {
+            end.push('a')?;
+        }
+    }
+    script.push_str("\\x0d\n")?;
+    end.push_str("\nstatus 0\n")?;
+    let (found, out) = replayed(rt.alloc(), &[], script.as_str(), &[], &[])?;
+    assert_eq!(rt; found, ACCEPTED);
+    assert!(rt; out.as_slice().ends_with(end.as_bytes()));
+    Ok(())
+}
+
 /// A terminal that obeys all frames shows the end of the run, and the frames stand alone.
 #[test]
 fn puts_frames_in_place_of_reports(rt: HostRuntime) -> Result<(), Fail> {

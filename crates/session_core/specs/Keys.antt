@@ -1,5 +1,5 @@
 -- What a key does to the state: a byte is a key.
-use Rattle.std.specs.Prelude.{ℕ, ◌-◌, Bool, ◌==◌, ◌&&◌, nat_le, nat_lt, List, [], ◌∷◌, length, Some, if◌then◌else◌}
+use Rattle.std.specs.Prelude.{◌≡◌, ℕ, ◌-◌, Bool, ◌==◌, ◌&&◌, nat_le, nat_lt, List, [], ◌∷◌, length, Some, Result, IsOk, if◌then◌else◌}
 use Rattle.text_doc.specs.Document.{Document}
 use Rattle.text_doc.specs.Edits.{inserted, deleted}
 use Rattle.text_doc.specs.declared.documents.TheConstants.{MAX_LENGTH}
@@ -18,6 +18,11 @@ is_accept byte = byte == 13
 -- the document with a character typed at its cursor, where there is room for one more
 abbrev pub typed : Document → ℕ → Document
 typed doc byte = if nat_lt (length doc.text) MAX_LENGTH then inserted doc (byte ∷ []) else doc
+
+-- a key was done well, and left the document as it was
+pub record HasDoneNothing {E : Type 0} (result : Result (Unit {0}) E) (old new : Document) : Type 0 where
+  pub ok : IsOk result
+  pub same : new ≡ old
 
 -- delete, the key that erases the character before the cursor
 abbrev pub is_erase : ℕ → Bool

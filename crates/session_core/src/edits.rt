@@ -1,6 +1,7 @@
 // What a key does to the document.
-ghost use Rattle.std.specs.Prelude.{◌≡◌, OnErr, OnOk};
-ghost use Rattle.session_core.specs.Keys.{edited, erased, typed};
+ghost use Rattle.std.specs.Prelude.{◌≡◌, ◌≤◌, true, length, OnErr, OnOk};
+ghost use Rattle.text_doc.specs.declared.documents.TheConstants.{MAX_LENGTH};
+ghost use Rattle.session_core.specs.Keys.{edited, erased, is_printable, typed, HasDoneNothing};
 
 use std::alloc::AllocError;
 use text_doc::{Doc, InsertFault, NoMemory};
@@ -10,6 +11,7 @@ use text_doc::{Doc, InsertFault, NoMemory};
 pub fn edit(doc: &mut Doc, byte: u8) -> Result<(), NoMemory>
     ensures edited { OnOk result (doc.new ≡ edited doc.old byte) }
     ensures err { OnErr result (doc.new ≡ doc.old) }
+    ensures full { is_printable byte ≡ true → MAX_LENGTH ≤ length doc.old.text → HasDoneNothing result doc.old doc.new }
 {
     match byte {
         b' '..=b'~' => type_char(doc, char::from(byte))?,
@@ -23,6 +25,7 @@ pub fn edit(doc: &mut Doc, byte: u8) -> Result<(), NoMemory>
 fn type_char(doc: &mut Doc, c: char) -> Result<(), NoMemory>
     ensures typed { OnOk result (doc.new ≡ typed doc.old c) }
     ensures err { OnErr result (doc.new ≡ doc.old) }
+    ensures full { MAX_LENGTH ≤ length doc.old.text → HasDoneNothing result doc.old doc.new }
 {
     match doc.insert(&[c]) {
         Ok(()) | Err(InsertFault::TooLong) => Ok(()),
