@@ -57,8 +57,8 @@ all_items-Replace (distinct tree) d =
     All-filter _ (λ item. item.back ≡ typed_len (before_cursor d)) (first_givers d (all_items tree d)) (first_givers-All (λ item. item.back ≡ typed_len (before_cursor d)) d (all_items tree d) (all_items-Replace tree d))
 
 -- so none reaches before the start of the text
-pub reach_all : (tree : Tree) (d : Document) → d.cursor ≤ length d.text → All (λ item. item.back ≤ d.cursor) (all_items tree d)
-reach_all tree d within =
+pub reach_all : (tree : Tree) (d : Document) → All (λ item. item.back ≤ d.cursor) (all_items tree d)
+reach_all tree d =
     let few = typed_len-le (before_cursor d) in
     All-weaker (λ item. item.back ≡ typed_len (before_cursor d)) (λ item. item.back ≤ d.cursor) (λ item is. omega (arith, is, few, length-take d.cursor d.text)) (all_items tree d) (all_items-Replace tree d)
 

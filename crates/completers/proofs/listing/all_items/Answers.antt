@@ -30,4 +30,4 @@ returns-clause-reach c =
     let so_far = c.loop-node.invariant in
     let none = drop_all c.loop-node.node-index c.nodes-node-items.result.now c.loop-node-test.false in
     let items = gathers_one doc tree c.loop-node.items.items c.loop-node.starts.items (so_far.0, so_far.1, sym (ap (λ ns. trees_of ns so_far.0) none) ∙ so_far.2) in
-    All-same (λ item. item.back ≤ doc.cursor) c.loop-node.items.items (all_items tree doc) items (reach_all tree doc c.before_cursor.ensures.within)
+    All-same (λ item. item.back ≤ doc.cursor) c.loop-node.items.items (all_items tree doc) items (reach_all tree doc)

@@ -1,0 +1,3 @@
+pub mod CuttingLemmas
+mod JoiningLemmas
+mod ReachLemmas
