@@ -14,7 +14,7 @@ use crate::nesting::put_nested;
 use crate::trees::Node;
 use crate::typed::typed_word;
 use std::alloc::Global;
-use text_doc::{Completion, Completions, Doc, NoMemory};
+use text_doc::{Completion, Completions, Doc, NoMemory, Text};
 
 /// The most completions that a document gets.
 pub const MAX_COMPLETIONS: usize = 10_000;
@@ -37,7 +37,8 @@ fn all_items(alloc: Global, completer: &Completer, doc: &Doc) -> Result<Vec<Comp
     ensures items { IfOk result (λ items. items.items ≡ all_items completer.now doc.now) }
     ensures reach { IfOk result (λ items. All (λ item. item.back ≤ doc.now.cursor) items.items) }
 {
-    let typed = typed_word(before_cursor(doc));
+    let before = before_cursor(doc)?;
+    let typed = typed_word(before.as_slice());
     let mut items = Vec::new(alloc);
     let mut starts = Vec::new(alloc);
     for node in completer.nodes() {
@@ -47,11 +48,11 @@ fn all_items(alloc: Global, completer: &Completer, doc: &Doc) -> Result<Vec<Comp
 }
 
 /// Returns the text before the cursor.
-fn before_cursor(doc: &Doc) -> &[char]
-    ensures text { result.now ≡ before_cursor doc.now }
+fn before_cursor(doc: &Doc) -> Result<Text, NoMemory>
+    ensures text { IfOk result (λ text. text ≡ before_cursor doc.now) }
     ensures within { doc.now.cursor ≤ length doc.now.text }
 {
-    &doc.chars()[..doc.cursor()]
+    doc.part(0, doc.cursor())
 }
 
 /// Takes one more node. The completions of the nodes so far stand in lists, one behind the other; `starts` holds where
@@ -79,7 +80,8 @@ fn take_node(
         }
         Node::Nested(options) => {
             starts.push(items.len())?;
-            put_nested(alloc, items, options.as_slice(), before_cursor(doc), typed)?;
+            let before = before_cursor(doc)?;
+            put_nested(alloc, items, options.as_slice(), before.as_slice(), typed)?;
         }
         Node::Merged => {
             let _ = starts.pop();

@@ -15,7 +15,8 @@ use text_doc::{Doc, Lines, NoMemory, Text};
 pub fn suggest(alloc: Global, history: &Lines, doc: &Doc) -> Result<Option<Text>, NoMemory>
     ensures { IfOk result (λ text. text ≡ suggestion history.now doc.now.text) }
 {
-    let line = last_line(doc.chars());
+    let text = doc.text()?;
+    let line = last_line(text.as_slice());
     if is_blank(line) {
         return Ok(None);
     }

@@ -30,7 +30,14 @@ impl Validator {
     pub fn check(&self, alloc: Global, doc: &Doc) -> Result<Verdict, NoMemory>
         ensures { IfOk result (λ verdict. verdict ≡ verdict_of self.now doc.now.text) }
     {
-        let text = doc.chars();
+        let text = doc.text()?;
+        let verdict = self.check_text(alloc, text.as_slice())?;
+        Ok(verdict)
+    }
+
+    fn check_text(&self, alloc: Global, text: &[char]) -> Result<Verdict, NoMemory>
+        ensures { IfOk result (λ verdict. verdict ≡ verdict_of self.now text.now) }
+    {
         match self {
             Validator::Any => Ok(Verdict::Valid),
             Validator::NonEmpty => {

@@ -71,22 +71,22 @@ IsBufferState-opened history text entries short = record {
 
 -- the text that is left goes to its place, and the line that is reached is that of the document
 lines_exchanged : (lines : List (List ℕ)) (from to : ℕ) (left : List ℕ) → from < length lines → to < length lines → (from ≡ to → ⊥)
-    → slice_set (slice_set (swap lines from to) from left) to (get_or lines to []) ≡ slice_set lines from left
+    → slice_set (swap (slice_set lines to left) from to) to (get_or lines to []) ≡ slice_set lines from left
 lines_exchanged lines from to left from_within to_within other =
     let there : List ℕ = get_or lines to [] in
-    let here : List ℕ = get_or lines from [] in
-    let first : List (List ℕ) = slice_set lines from there in
-    let P : List (List ℕ) → List (List ℕ) = λ xs. slice_set (slice_set xs from left) to there in
-    ap P (sym (swap_is lines from to [] from_within to_within))
-    ∙ ap (λ xs. slice_set xs to there) (sym (set_comm first from to left here other) ∙ ap (λ xs. slice_set xs to here) (set-set lines from there left))
-    ∙ set-set (slice_set lines from left) to here there
+    let given : List (List ℕ) = slice_set lines to left in
+    ap (λ xs. slice_set xs to there) (sym (swap_is given from to [] (rw length-set from_within) (rw length-set to_within)))
+    ∙ set-set (slice_set given from (get_or given to [])) to (get_or given from []) there
+    ∙ ap (λ y. slice_set (slice_set given from y) to there) (get_or-set_same lines to left [] to_within)
+    ∙ ap (λ xs. slice_set xs to there) (set_comm lines to from left left (λ e. other (sym e)))
+    ∙ set-set (slice_set lines from left) to left there
     ∙ ap (slice_set (slice_set lines from left) to) (sym (get_or-set_other lines from to left [] (λ e. other (sym e))))
     ∙ set-get_or (slice_set lines from left) to []
 
 -- going to another line
 pub state_of-moved : (b : Inside) (line at : ℕ) → b.index < length b.lines.items → line < length b.lines.items → (b.index ≡ line → ⊥) → (d : Document)
     → d ≡ record { text = get_or b.lines.items line []; cursor = at; mark = None }
-    → (lines : List (List ℕ)) → lines ≡ slice_set (swap b.lines.items b.index line) b.index b.doc.text
+    → (lines : List (List ℕ)) → lines ≡ swap (slice_set b.lines.items line b.doc.text) b.index line
     → record { doc = d; lines = slice_set lines line d.text; index = line; undo = b.undo.items; redo = b.redo.items; menu = b.menu } ≡ moved_to (state_of b) line at
 state_of-moved b line at index within other d document lines exchanged =
     let reached : get_or (slice_set b.lines.items b.index b.doc.text) line [] ≡ get_or b.lines.items line [] = get_or-set_other b.lines.items b.index line b.doc.text [] (λ e. other (sym e)) in

@@ -147,8 +147,8 @@ fn complete_short(alloc: Global, original: &Doc, item: &Completion) -> Result<Do
     let mut text = original.part(0, from)?;
     text.extend_from_slice(item.text.as_slice())?;
     let cursor = text.len();
-    let behind = original.chars();
-    text.extend_from_slice(&behind[original.cursor()..])?;
+    let behind = original.part(original.cursor(), original.len())?;
+    text.extend_from_slice(behind.as_slice())?;
     let doc = Doc::new(alloc, text, cursor)?;
     Ok(doc)
 }

@@ -53,22 +53,31 @@ impl Buffer {
             self.doc.set_cursor(at);
             return Ok(());
         }
-        go_to_line(&mut self.doc, &mut self.lines, self.index, line, at);
+        go_to_line(&mut self.doc, &mut self.lines, self.index, line, at)?;
         self.index = line;
         Ok(())
     }
 }
 
-// The document gets the text of `line`, and its own goes to the place of the line that was present.
-fn go_to_line(doc: &mut Doc, lines: &mut Vec<Text>, present: usize, line: usize, at: usize)
+/// Gives the document the text of `line`, and the place of the present line the text that the document had.
+fn go_to_line(
+    doc: &mut Doc,
+    lines: &mut Vec<Text>,
+    present: usize,
+    line: usize,
+    at: usize,
+) -> Result<(), NoMemory>
     requires present { present < length lines.old.items }
     requires line { line < length lines.old.items }
     requires place { at ≤ length (slice_index_or lines.old.items line []) }
     requires short { length (slice_index_or lines.old.items line []) ≤ MAX_LENGTH }
-    ensures doc { doc.new ≡ record { text = slice_index_or lines.old.items line []; cursor = at; mark = None } }
-    ensures lines { lines.new.items ≡ slice_set (swap lines.old.items present line) present doc.old.text }
+    ensures doc { OnOk result (doc.new ≡ record { text = slice_index_or lines.old.items line []; cursor = at; mark = None }) }
+    ensures lines { OnOk result (lines.new.items ≡ swap (slice_set lines.old.items line doc.old.text) present line) }
+    ensures err_doc { OnErr result (doc.new ≡ doc.old) }
+    ensures err_lines { OnErr result (lines.new.items ≡ lines.old.items) }
 {
     let lines = lines.as_mut_slice();
+    doc.exchange(&mut lines[line], at)?;
     lines.swap(present, line);
-    doc.exchange(&mut lines[present], at);
+    Ok(())
 }

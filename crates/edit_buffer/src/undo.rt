@@ -44,7 +44,6 @@ impl Snapshot {
     {
         let Snapshot { mut doc } = self;
         doc.set_mark(None);
-        let _length = doc.len();
         doc
     }
 
@@ -53,7 +52,7 @@ impl Snapshot {
         ensures value { result ≡ has_text doc.now.text self.now }
         ensures equal { OnTrue result (self.now.text ≡ doc.now.text) }
     {
-        self.doc.chars() == doc.chars()
+        self.doc.is_same_text(doc)
     }
 
     /// Moves the cursor.

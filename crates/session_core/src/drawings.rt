@@ -86,7 +86,9 @@ fn line_cells(prompt: &CellRow, doc: &Doc) -> Result<CellRow, NoMemory>
     ensures whole { IfOk result (λ cells. IsWhole cells) }
 {
     let mut cells = prompt.copy()?;
-    push_chars(&mut cells, doc.chars())?;
+    let (front, back) = doc.parts();
+    push_chars(&mut cells, front)?;
+    push_chars(&mut cells, back)?;
     push_chars(&mut cells, &[' '])?;
     prove!(cells.as_slice().len() == cells.len());
     Ok(cells)

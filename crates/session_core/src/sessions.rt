@@ -122,7 +122,7 @@ impl Session {
     {
         for (at, byte) in bytes.iter().enumerate() {
             if *byte == b'\r' {
-                let text = Text::from_chars(self.alloc, self.doc.chars())?;
+                let text = self.doc.text()?;
                 let kept = Bytes::from_slice(self.alloc, &bytes[at + 1..])?;
                 self.outcome = Some(Outcome::Accepted(text));
                 self.kept = kept;

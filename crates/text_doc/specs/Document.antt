@@ -1,7 +1,6 @@
 -- What a contract sees of a document: its text, the place of its cursor and the place of its mark.
 use Rattle.std.specs.Prelude.{◌≡◌, ℕ, ◌≤◌, List, length, Option}
 use Rattle.std.specs.Option.{ForSome}
-use Rattle.text_doc.specs.declared.documents.TheConstants.{MAX_LENGTH}
 
 -- characters, a cursor and perhaps a mark
 pub record Document : Type 0 where
@@ -9,9 +8,9 @@ pub record Document : Type 0 where
   pub cursor : ℕ
   pub mark : Option ℕ
 
--- the text is short enough, and cursor and mark are places of it, from 0 to its length
+-- the text has at most 32,768 characters, and cursor and mark are places of it, from 0 to its length
 pub record IsDocument (d : Document) : Type 0 where
-  pub short : length d.text ≤ MAX_LENGTH
+  pub short : length d.text ≤ 32768
   pub cursor_within : d.cursor ≤ length d.text
   pub mark_within : ForSome d.mark (λ m. m ≤ length d.text)
 

@@ -2,21 +2,23 @@
 ghost use Rattle.std.specs.Prelude.{◌≡◌, ◌≢◌, ◌+◌, ◌^◌, ◌<◌, ◌≤◌, ◌==◌, length, slice_index, IfSome, if◌then◌else◌};
 ghost use Rattle.text_doc.specs.Brackets.{closing_of, opening_of, match_ahead, match_back, matching_bracket};
 
+use crate::indexed_texts::IndexedText;
+
 #[tactic(auto, unfolding(crate::specs::Brackets::matching_bracket))]
-pub fn matching_bracket(chars: &[char], cursor: usize) -> Option<usize>
-    requires { cursor ≤ length chars.now }
-    ensures place { result ≡ matching_bracket chars.now cursor }
-    ensures within { IfSome result (λ at. at < length chars.now) }
+pub fn matching_bracket(text: &IndexedText, cursor: usize) -> Option<usize>
+    requires { cursor ≤ length text.now }
+    ensures place { result ≡ matching_bracket text.now cursor }
+    ensures within { IfSome result (λ at. at < length text.now) }
 {
-    if cursor == chars.len() {
+    if cursor == text.len() {
         return None;
     }
-    let c = chars[cursor];
+    let c = text.char_at(cursor);
     if let Some(closing) = closing_of(c) {
-        return match_ahead(chars, cursor, c, closing);
+        return match_ahead(text, cursor, c, closing);
     }
     if let Some(opening) = opening_of(c) {
-        return match_back(chars, cursor, opening, c);
+        return match_back(text, cursor, opening, c);
     }
     None
 }
@@ -45,16 +47,17 @@ fn opening_of(c: char) -> Option<char>
     }
 }
 
-fn match_ahead(chars: &[char], cursor: usize, opening: char, closing: char) -> Option<usize>
-    requires within { cursor < length chars.now }
-    requires at_cursor { slice_index chars.now cursor ≡ opening }
+fn match_ahead(text: &IndexedText, cursor: usize, opening: char, closing: char) -> Option<usize>
+    requires within { cursor < length text.now }
+    requires at_cursor { slice_index text.now cursor ≡ opening }
     requires different { opening ≢ closing }
-    ensures place { result ≡ match_ahead opening closing chars.now cursor }
-    ensures within { IfSome result (λ at. at < length chars.now) }
+    ensures place { result ≡ match_ahead opening closing text.now cursor }
+    ensures within { IfSome result (λ at. at < length text.now) }
 {
+    let end = text.len();
     let mut depth: usize = 1;
-    for at in cursor + 1..chars.len() {
-        depth = depth_after(depth, chars[at], opening, closing);
+    for at in cursor + 1..end {
+        depth = depth_after(depth, text.char_at(at), opening, closing);
         if depth == 0 {
             return Some(at);
         }
@@ -62,16 +65,17 @@ fn match_ahead(chars: &[char], cursor: usize, opening: char, closing: char) -> O
     None
 }
 
-fn match_back(chars: &[char], cursor: usize, opening: char, closing: char) -> Option<usize>
-    requires within { cursor < length chars.now }
-    requires at_cursor { slice_index chars.now cursor ≡ closing }
+fn match_back(text: &IndexedText, cursor: usize, opening: char, closing: char) -> Option<usize>
+    requires within { cursor < length text.now }
+    requires short { length text.now ≤ 32768 }
+    requires at_cursor { slice_index text.now cursor ≡ closing }
     requires different { opening ≢ closing }
-    ensures place { result ≡ match_back opening closing chars.now cursor }
-    ensures within { IfSome result (λ at. at < length chars.now) }
+    ensures place { result ≡ match_back opening closing text.now cursor }
+    ensures within { IfSome result (λ at. at < length text.now) }
 {
     let mut depth: usize = 1;
     for at in (0..cursor).rev() {
-        depth = depth_after(depth, chars[at], closing, opening);
+        depth = depth_after(depth, text.char_at(at), closing, opening);
         if depth == 0 {
             return Some(at);
         }

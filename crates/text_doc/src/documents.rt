@@ -4,26 +4,18 @@ ghost use Rattle.std.specs.Option.{ForSome};
 ghost use Rattle.text_doc.specs.Document.{IsDocument, SameTextAndCursor};
 ghost use Rattle.text_doc.specs.Edits.{inserted, mark_after_insert, deleted, place_after_delete};
 
-use crate::{NoMemory, Text};
+use crate::indexed_texts::IndexedText;
+use crate::{InsertFault, NoMemory, Text};
 use std::alloc::Global;
 use std::marker::Model;
 
 /// The most characters that a document can have.
 pub const MAX_LENGTH: usize = 32_768;
 
-/// Why an insertion was refused.
-#[derive(Debug, Drop)]
-pub enum InsertFault {
-    /// The document would have more than `MAX_LENGTH` characters.
-    TooLong,
-    /// There was no memory for the longer text.
-    NoMemory,
-}
-
 /// A text of at most `MAX_LENGTH` characters with a cursor and perhaps a mark. Both are places, counted in characters.
 #[derive(Debug, Drop)]
 pub struct Doc {
-    chars: Vec<char>,
+    text: IndexedText,
     cursor: usize,
     mark: Option<usize>,
 }
@@ -33,45 +25,52 @@ impl Model for Doc {
 
     ghost Value = { Document };
 
-    ghost view = { λ d. record { text = d.chars.items; cursor = d.cursor; mark = d.mark } };
+    ghost view = { λ d. record { text = d.text; cursor = d.cursor; mark = d.mark } };
 
-    ghost invariant = { λ d. IsDocument (record { text = d.chars.items; cursor = d.cursor; mark = d.mark }) };
+    ghost invariant = { λ d. IsDocument (record { text = d.text; cursor = d.cursor; mark = d.mark }) };
 }
 
 impl Doc {
-    /// Returns a document of this text without a mark. The text's memory is kept as it is, so this asks for none.
+    /// Returns a document of this text without a mark, in the text's memory. The text is walked once for its rows.
     pub fn new(_alloc: Global, text: Text, cursor: usize) -> Result<Doc, NoMemory>
         requires place { cursor ≤ length text }
-        requires short { length text ≤ MAX_LENGTH }
-        ensures { IfOk result (λ doc. doc ≡ record { text = text; cursor = cursor; mark = None }) }
+        requires short { length text ≤ 32768 }
+        ensures value { IfOk result (λ doc. doc ≡ record { text = text; cursor = cursor; mark = None }) }
+        ensures document { IfOk result IsDocument }
     {
+        let text = IndexedText::new(text)?;
         Ok(Doc {
-            chars: text.into_vec(),
+            text,
             cursor,
             mark: None,
         })
     }
 
     /// Takes this text in exchange for its own, which `text` then holds, with the cursor at this place of it and
-    /// without a mark. The memory of both is kept, so this asks for none.
-    pub fn exchange(&mut self, text: &mut Text, cursor: usize)
+    /// without a mark. No character is copied.
+    pub fn exchange(&mut self, text: &mut Text, cursor: usize) -> Result<(), NoMemory>
         requires place { cursor ≤ length text.old }
-        requires short { length text.old ≤ MAX_LENGTH }
-        ensures document { self.new ≡ record { text = text.old; cursor = cursor; mark = None } }
-        ensures text { text.new ≡ self.old.text }
+        requires short { length text.old ≤ 32768 }
+        ensures ok { OnOk result (self.new ≡ record { text = text.old; cursor = cursor; mark = None }) }
+        ensures text { OnOk result (text.new ≡ self.old.text) }
+        ensures err { OnErr result (self.new ≡ self.old) }
+        ensures text_stays { OnErr result (text.new ≡ text.old) }
+        ensures document { IsDocument self.new }
     {
-        text.exchange(&mut self.chars);
+        self.text.exchange(text)?;
         self.cursor = cursor;
         self.mark = None;
+        Ok(())
     }
 
     /// Returns an equal document, its mark included.
     pub fn copy(&self) -> Result<Doc, NoMemory>
-        ensures { IfOk result (λ copy. copy ≡ self.now) }
+        ensures value { IfOk result (λ copy. copy ≡ self.now) }
+        ensures document { IfOk result IsDocument }
     {
-        let chars = Vec::from_slice(*self.chars.allocator(), self.chars.as_slice())?;
+        let text = self.text.copy()?;
         Ok(Doc {
-            chars,
+            text,
             cursor: self.cursor,
             mark: self.mark,
         })
@@ -82,21 +81,35 @@ impl Doc {
         ensures len { result ≡ length self.now.text }
         ensures document { IsDocument self.now }
     {
-        self.chars.len()
+        self.text.len()
     }
 
     /// Returns whether there is no character.
     pub fn is_empty(&self) -> bool
         ensures { IsTrue result ↔ (self.now.text ≡ []) }
     {
-        self.chars.is_empty()
+        self.text.len() == 0
     }
 
     /// Returns whether text and cursor are equal to those of `other`. The marks may differ.
     pub fn is_same(&self, other: &Doc) -> bool
         ensures { IsTrue result ↔ SameTextAndCursor self.now other.now }
     {
-        self.cursor == other.cursor && self.chars.as_slice() == other.chars.as_slice()
+        self.cursor == other.cursor && self.text.is_same(&other.text)
+    }
+
+    /// Returns whether the text is equal to that of `other`. The cursors and the marks may differ.
+    pub fn is_same_text(&self, other: &Doc) -> bool
+        ensures { IsTrue result ↔ (self.now.text ≡ other.now.text) }
+    {
+        self.text.is_same(&other.text)
+    }
+
+    /// Returns whether the text is these characters.
+    pub fn has_text(&self, chars: &[char]) -> bool
+        ensures { IsTrue result ↔ (self.now.text ≡ chars.now) }
+    {
+        self.text.equals(chars)
     }
 
     /// Returns the character at the place `at`.
@@ -104,15 +117,23 @@ impl Doc {
         requires { at < length self.now.text }
         ensures { result ≡ slice_index self.now.text at }
     {
-        self.chars[at]
+        self.text.char_at(at)
     }
 
-    /// Returns the characters of the text.
-    pub fn chars(&self) -> &[char]
-        ensures chars { result.now ≡ self.now.text }
+    /// Returns the characters of the text as two slices, of which the second follows on the first. Where the text is
+    /// cut is not said, and each edit may cut it elsewhere.
+    pub fn parts(&self) -> (&[char], &[char])
+        ensures parts { result.0.now ++ result.1.now ≡ self.now.text }
         ensures document { IsDocument self.now }
     {
-        self.chars.as_slice()
+        self.text.parts()
+    }
+
+    /// Returns a copy of the text.
+    pub fn text(&self) -> Result<Text, NoMemory>
+        ensures { IfOk result (λ text. text ≡ self.now.text) }
+    {
+        self.part(0, self.len())
     }
 
     /// Returns the cursor's place.
@@ -134,7 +155,8 @@ impl Doc {
     /// Moves the cursor.
     pub fn set_cursor(&mut self, at: usize)
         requires { at ≤ length self.old.text }
-        ensures { self.new ≡ record self.old { cursor = at } }
+        ensures moved { self.new ≡ record self.old { cursor = at } }
+        ensures document { IsDocument self.new }
     {
         self.cursor = at;
     }
@@ -142,7 +164,8 @@ impl Doc {
     /// Sets the mark, or takes it away.
     pub fn set_mark(&mut self, at: Option<usize>)
         requires { ForSome at (λ place. place ≤ length self.old.text) }
-        ensures { self.new ≡ record self.old { mark = at } }
+        ensures marked { self.new ≡ record self.old { mark = at } }
+        ensures document { IsDocument self.new }
     {
         self.mark = at;
     }
@@ -151,16 +174,13 @@ impl Doc {
     pub fn insert(&mut self, chars: &[char]) -> Result<(), InsertFault>
         ensures ok { OnOk result (self.new ≡ inserted self.old chars.now) }
         ensures err { OnErr result (self.new ≡ self.old) }
-        ensures too_long { (result ≡ Err InsertFault.TooLong)
-            ↔ (MAX_LENGTH < length self.old.text + length chars.now) }
+        ensures too_long { (result ≡ Err InsertFault.TooLong) ↔ (32768 < length self.old.text + length chars.now) }
+        ensures document { IsDocument self.new }
     {
-        if chars.len() > MAX_LENGTH - self.chars.len() {
+        if chars.len() > MAX_LENGTH - self.text.len() {
             return Err(InsertFault::TooLong);
         }
-        match insert_chars(&mut self.chars, self.cursor, chars) {
-            Ok(()) => {}
-            Err(_) => return Err(InsertFault::NoMemory),
-        }
+        self.text.insert(self.cursor, chars)?;
         self.mark = moved_mark(self.mark, self.cursor, chars.len());
         self.cursor += chars.len();
         Ok(())
@@ -170,9 +190,10 @@ impl Doc {
     pub fn delete(&mut self, from: usize, to: usize)
         requires ordered { from ≤ to }
         requires range { to ≤ length self.old.text }
-        ensures { self.new ≡ deleted self.old from to }
+        ensures deleted { self.new ≡ deleted self.old from to }
+        ensures document { IsDocument self.new }
     {
-        delete_chars(&mut self.chars, from, to);
+        self.text.delete(from, to);
         self.cursor = place_after_delete(self.cursor, from, to);
         self.mark = match self.mark {
             Some(place) => Some(place_after_delete(place, from, to)),
@@ -187,6 +208,7 @@ impl Doc {
         ensures text { IfOk result (λ text. text ≡ slice_range self.old.text from to) }
         ensures ok { OnOk result (self.new ≡ deleted self.old from to) }
         ensures err { OnErr result (self.new ≡ self.old) }
+        ensures document { IsDocument self.new }
     {
         let text = self.part(from, to)?;
         self.delete(from, to);
@@ -197,24 +219,19 @@ impl Doc {
     pub fn part(&self, from: usize, to: usize) -> Result<Text, NoMemory>
         requires ordered { from ≤ to }
         requires range { to ≤ length self.now.text }
-        ensures { IfOk result (λ text. text ≡ slice_range self.now.text from to) }
+        ensures part { IfOk result (λ text. text ≡ slice_range self.now.text from to) }
+        ensures document { IsDocument self.now }
     {
-        let chars = self.chars.as_slice();
-        let text = Text::from_slice(*self.chars.allocator(), &chars[from..to])?;
-        Ok(text)
+        self.text.part(from, to)
     }
-}
 
-fn insert_chars(all: &mut Vec<char>, at: usize, chars: &[char]) -> Result<(), NoMemory>
-    requires { at ≤ length all.old.items }
-    ensures ok { OnOk result (all.new.items ≡ take at all.old.items ++ chars.now ++ drop at all.old.items) }
-    ensures err { OnErr result (all.new.items ≡ all.old.items) }
-{
-    all.extend_from_slice(chars)?;
-    let all = all.as_mut_slice();
-    let behind = &mut all[at..];
-    behind.rotate_right(chars.len());
-    Ok(())
+    /// Returns the text for the walks along it.
+    pub(crate) fn indexed(&self) -> &IndexedText
+        ensures text { result.now ≡ self.now.text }
+        ensures document { IsDocument self.now }
+    {
+        &self.text
+    }
 }
 
 fn moved_mark(mark: Option<usize>, at: usize, count: usize) -> Option<usize>
@@ -225,18 +242,6 @@ fn moved_mark(mark: Option<usize>, at: usize, count: usize) -> Option<usize>
         Some(place) if place > at => Some(place + count),
         _ => mark,
     }
-}
-
-fn delete_chars(all: &mut Vec<char>, from: usize, to: usize)
-    requires ordered { from ≤ to }
-    requires range { to ≤ length all.old.items }
-    ensures { all.new.items ≡ take from all.old.items ++ drop to all.old.items }
-{
-    let kept = all.len() - (to - from);
-    let chars = all.as_mut_slice();
-    let behind = &mut chars[from..];
-    behind.rotate_left(to - from);
-    all.truncate(kept);
 }
 
 fn place_after_delete(place: usize, from: usize, to: usize) -> usize

@@ -4,7 +4,9 @@
 mod brackets;
 mod completions;
 mod documents;
+mod faults;
 mod finds;
+mod indexed_texts;
 mod places;
 mod rows;
 #[cfg(test)]
@@ -12,5 +14,7 @@ mod tests;
 mod words;
 
 pub use completions::{Completion, Completions};
-pub use documents::{Doc, InsertFault, MAX_LENGTH};
+pub use documents::{Doc, MAX_LENGTH};
+pub use faults::InsertFault;
 pub use sequences::{Bytes, Item, Lines, NoMemory, Sequence, Text};
+pub use words::{Class, class_of};

@@ -1,89 +1,83 @@
-//! Rows and columns, walked over once.
+//! Rows and columns, by the index of a text and at most one walk of a row.
 ghost use Rattle.std.specs.Prelude.{◌≡◌, ◌<◌, ◌≤◌, length, IfSome};
 ghost use Rattle.text_doc.specs.Rows.{line_start, line_end, row_of, row_start, index_of, up, down};
 
-pub fn line_start(chars: &[char], place: usize) -> usize
-    requires { place ≤ length chars.now }
-    ensures start { result ≡ line_start chars.now place }
+use crate::indexed_texts::IndexedText;
+
+pub fn line_start(text: &IndexedText, place: usize) -> usize
+    requires { place ≤ length text.now }
+    ensures start { result ≡ line_start text.now place }
     ensures within { result ≤ place }
 {
     for at in (0..place).rev() {
-        if chars[at] == '\n' {
+        if text.char_at(at) == '\n' {
             return at + 1;
         }
     }
     0
 }
 
-pub fn line_end(chars: &[char], place: usize) -> usize
-    requires { place ≤ length chars.now }
-    ensures end { result ≡ line_end chars.now place }
+pub fn line_end(text: &IndexedText, place: usize) -> usize
+    requires { place ≤ length text.now }
+    ensures end { result ≡ line_end text.now place }
     ensures behind { place ≤ result }
-    ensures within { result ≤ length chars.now }
+    ensures within { result ≤ length text.now }
+    ensures short { length text.now ≤ 32768 }
 {
-    for at in place..chars.len() {
-        if chars[at] == '\n' {
+    for at in place..text.len() {
+        if text.char_at(at) == '\n' {
             return at;
         }
     }
-    chars.len()
+    text.len()
 }
 
-#[tactic(auto, unfolding(crate::specs::Rows::row_of))]
-pub fn row_of(chars: &[char], place: usize) -> usize
-    requires { place ≤ length chars.now }
-    ensures row { result ≡ row_of chars.now place }
-    ensures within { result ≤ length chars.now }
+pub fn index_of(text: &IndexedText, row: usize, col: usize) -> usize
+    ensures place { result ≡ index_of text.now row col }
+    ensures within { result ≤ length text.now }
 {
-    chars[..place].iter().filter(|c| **c == '\n').count()
-}
-
-pub fn index_of(chars: &[char], row: usize, col: usize) -> usize
-    ensures place { result ≡ index_of chars.now row col }
-    ensures within { result ≤ length chars.now }
-{
-    let start = row_start(chars, row);
-    let end = line_end(chars, start);
+    let start = row_start(text, row);
+    let end = line_end(text, start);
     if col < end - start { start + col } else { end }
 }
 
 #[tactic(auto, unfolding(crate::specs::Rows::up))]
-pub fn up(chars: &[char], cursor: usize, count: u32, col: usize) -> Option<usize>
-    requires { cursor ≤ length chars.now }
-    ensures place { result ≡ up chars.now cursor count col }
-    ensures within { IfSome result (λ at. at ≤ length chars.now) }
+pub fn up(text: &IndexedText, from: usize, count: u32, col: usize) -> Option<usize>
+    requires { from ≤ length text.now }
+    ensures place { result ≡ up text.now from count col }
+    ensures within { IfSome result (λ at. at ≤ length text.now) }
 {
-    let row = row_of(chars, cursor);
+    let row = text.row_of(from);
     if row == 0 || count == 0 {
         return None;
     }
-    Some(index_of(chars, row.saturating_sub(count as usize), col))
+    Some(index_of(text, row.saturating_sub(count as usize), col))
 }
 
 #[tactic(auto, unfolding(crate::specs::Rows::down))]
-pub fn down(chars: &[char], cursor: usize, count: u32, col: usize) -> Option<usize>
-    requires { cursor ≤ length chars.now }
-    ensures place { result ≡ down chars.now cursor count col }
-    ensures within { IfSome result (λ at. at ≤ length chars.now) }
+pub fn down(text: &IndexedText, from: usize, count: u32, col: usize) -> Option<usize>
+    requires { from ≤ length text.now }
+    ensures place { result ≡ down text.now from count col }
+    ensures within { IfSome result (λ at. at ≤ length text.now) }
 {
-    let row = row_of(chars, cursor);
-    if row == row_of(chars, chars.len()) || count == 0 {
+    let row = text.row_of(from);
+    if row == text.row_of(text.len()) || count == 0 {
         return None;
     }
-    Some(index_of(chars, row + count as usize, col))
+    Some(index_of(text, row + count as usize, col))
 }
 
-fn row_start(chars: &[char], row: usize) -> usize
-    ensures start { result ≡ row_start chars.now row }
-    ensures within { result ≤ length chars.now }
+fn row_start(text: &IndexedText, row: usize) -> usize
+    ensures start { result ≡ row_start text.now row }
+    ensures within { result ≤ length text.now }
 {
     let mut start = 0;
     let mut number = 0;
-    for at in 0..chars.len() {
+    for at in 0..text.len() {
         if number == row {
             return start;
         }
-        if chars[at] == '\n' {
+        if text.char_at(at) == '\n' {
             start = at + 1;
             number += 1;
         }

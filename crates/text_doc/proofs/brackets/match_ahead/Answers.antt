@@ -1,22 +1,21 @@
 use Rattle.std.proofs.Common.{◌≡◌, get_or, arith}
-use Rattle.std.proofs.lemmas.List.{get_or_read}
 use Rattle.text_doc.proofs.BracketWalks.{IsOpen-front, IsOpen-more, match_ahead_found, match_ahead_none}
 use Rattle.text_doc.proofs.brackets.match_ahead.Goals as goal
 
 pub loop-at-init : goal.loop-at-init
 loop-at-init c =
-    IsOpen-front c.args.opening c.args.closing c.args.chars.now c.args.cursor c.requires.within c.requires.at_cursor c.requires.different
+    IsOpen-front c.args.opening c.args.closing c.args.text.now c.args.cursor c.requires.within c.requires.at_cursor c.requires.different
 
 pub returns-then-depth-eq0-clause-place : goal.returns-then-depth-eq0-clause-place
 returns-then-depth-eq0-clause-place c =
-    let read : c.index-chars-at.result ≡ get_or c.args.chars.now c.loop-at.at 0 = get_or_read c.args.chars.now c.loop-at.at c.index-chars-at.result (omega arith) c.index-chars-at.is 0 in
-    match_ahead_found c.args.opening c.args.closing c.args.chars.now c.args.cursor c.loop-at.at c.loop-at.depth c.depth_after-depth.result c.loop-at.invariant (omega arith) c.loop-at-test.true (rw read at c.depth_after-depth.ensures) c.if-depth-eq0.true
+    let read : c.char_at.result ≡ get_or c.args.text.now c.loop-at.at 0 = c.char_at.ensures in
+    match_ahead_found c.args.opening c.args.closing c.args.text.now c.args.cursor c.loop-at.at c.loop-at.depth c.depth_after-depth.result c.loop-at.invariant (omega arith) (omega arith) (rw read at c.depth_after-depth.ensures) c.if-depth-eq0.true
 
 pub loop-at-preserved : goal.loop-at-preserved
 loop-at-preserved c =
-    let read : c.index-chars-at.result ≡ get_or c.args.chars.now c.loop-at.at 0 = get_or_read c.args.chars.now c.loop-at.at c.index-chars-at.result (omega arith) c.index-chars-at.is 0 in
-    IsOpen-more c.args.opening c.args.closing c.args.chars.now c.args.cursor c.loop-at.at c.loop-at.depth c.depth_after-depth.result c.loop-at.invariant (omega arith) c.loop-at-test.true (rw read at c.depth_after-depth.ensures) (omega arith)
+    let read : c.char_at.result ≡ get_or c.args.text.now c.loop-at.at 0 = c.char_at.ensures in
+    IsOpen-more c.args.opening c.args.closing c.args.text.now c.args.cursor c.loop-at.at c.loop-at.depth c.depth_after-depth.result c.loop-at.invariant (omega arith) (omega arith) (rw read at c.depth_after-depth.ensures) (omega arith)
 
 pub returns-clause-place : goal.returns-clause-place
 returns-clause-place c =
-    match_ahead_none c.args.opening c.args.closing c.args.chars.now c.args.cursor c.loop-at.at c.loop-at.depth c.loop-at.invariant c.loop-at-test.false
+    match_ahead_none c.args.opening c.args.closing c.args.text.now c.args.cursor c.loop-at.at c.loop-at.depth c.loop-at.invariant (omega arith)

@@ -6,6 +6,6 @@ use Rattle.text_doc.proofs.finds.nth_ahead.Given as goal
 abbrev pub invariant-loop-at : goal.invariant-loop-at
 invariant-loop-at l = record {
   behind : l.from ≤ l.at;
-  counted : length (passing (stands_at l.c l.chars) l.from l.at) ≡ l.seen;
+  counted : length (passing (stands_at l.c l.text) l.from l.at) ≡ l.seen;
   too_few : l.seen < l.nth;
 }

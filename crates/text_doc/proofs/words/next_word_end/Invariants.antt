@@ -3,4 +3,4 @@ use Rattle.text_doc.specs.Words.{is_word_end}
 use Rattle.text_doc.proofs.words.next_word_end.Given as goal
 
 abbrev pub invariant-loop-at : goal.invariant-loop-at
-invariant-loop-at l = (k : ℕ) → l.cursor < k → k < l.at → is_word_end l.big l.chars k ≡ false
+invariant-loop-at l = (k : ℕ) → l.from < k → k < l.at → is_word_end l.big l.text k ≡ false

@@ -6,9 +6,9 @@ use Rattle.text_doc.proofs.words.prev_word.Goals as goal
 pub returns-then-is_word_start-clause-place : goal.returns-then-is_word_start-clause-place
 unfolding prev_word
 returns-then-is_word_start-clause-place c =
-    last_found (is_word_start c.args.big c.args.chars.now) _ _ _ (omega arith) (omega arith) (cc)
+    last_found (is_word_start c.args.big c.args.text.now) _ _ _ (omega arith) (omega arith) (cc)
     (λ k lo hi. c.loop-at.invariant k (omega arith) hi)
 
 pub returns-clause-place : goal.returns-clause-place
 unfolding prev_word
-returns-clause-place c = last_none (is_word_start c.args.big c.args.chars.now) _ _ (λ k lo hi. c.loop-at.invariant k (omega arith) hi)
+returns-clause-place c = last_none (is_word_start c.args.big c.args.text.now) _ _ (λ k lo hi. c.loop-at.invariant k (omega arith) hi)

@@ -16,7 +16,7 @@ invariant_of-self-2 c =
     let Q : BufferState → Type 0 = λ s. c.args.at ≤ length (line_of s c.args.line) in
     let place : c.args.at ≤ length (line_of (state_of b) c.args.line) = subst Q (sym c.self.view_is) c.requires.place in
     record {
-      state = subst IsBufferState (sym (state_of-moved b c.args.line c.args.at index line (λ e. c.if-line-self.false (sym e)) c.go_to_line.new.doc c.go_to_line.ensures.doc _ c.go_to_line.ensures.lines))
+      state = subst IsBufferState (sym (state_of-moved b c.args.line c.args.at index line (λ e. c.if-line-self.false (sym e)) c.go_to_line.new.doc c.in_ok-go_to_line.ensures.doc _ c.in_ok-go_to_line.ensures.lines))
           (IsBufferState-moved_to (state_of b) c.args.line c.args.at c.self.invariant.state within place);
       undo_room = c.self.invariant.undo_room;
       redo_room = c.self.invariant.redo_room;
@@ -30,4 +30,4 @@ returns-clause-ok c =
     let within : c.args.line < length (state_of b).lines = subst P (sym c.self.view_is) c.requires.line in
     let line : c.args.line < length b.lines.items = omega (arith, within, length-set b.lines.items b.index b.doc.text) in
     rw (← c.self.view_is)
-    (state_of-moved b c.args.line c.args.at index line (λ e. c.if-line-self.false (sym e)) c.go_to_line.new.doc c.go_to_line.ensures.doc _ c.go_to_line.ensures.lines)
+    (state_of-moved b c.args.line c.args.at index line (λ e. c.if-line-self.false (sym e)) c.go_to_line.new.doc c.in_ok-go_to_line.ensures.doc _ c.in_ok-go_to_line.ensures.lines)
