@@ -3,7 +3,6 @@ use Rattle.std.specs.Prelude.{ℕ, ◌-◌, not, List, [], ◌∷◌, ◌++◌, 
 use Rattle.std.specs.Str.{bytes_eq}
 use Rattle.text_doc.specs.Document.{Document}
 use Rattle.text_doc.specs.declared.completions.Completion.{Completion}
-use Rattle.completers.specs.declared.listing.TheConstants.{MAX_COMPLETIONS}
 use Rattle.completers.specs.Words.{word_items}
 use Rattle.completers.specs.Nested.{nested_items}
 use Rattle.completers.specs.Trees.{Tree, words, nested, merged, distinct}
@@ -32,6 +31,6 @@ all_items (nested options) d = nested_items options (before_cursor d)
 all_items (merged first second) d = all_items first d ++ all_items second d
 all_items (distinct tree) d = distinct_items d (all_items tree d)
 
--- the first of them
+-- the first 10,000 of them
 abbrev pub listed_items : Tree → Document → List Completion
-listed_items tree d = take MAX_COMPLETIONS (all_items tree d)
+listed_items tree d = take 10000 (all_items tree d)

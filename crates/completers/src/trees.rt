@@ -5,7 +5,7 @@ ghost use Rattle.completers.specs.Trees.{words, nested, merged, distinct, trees_
 use crate::NestedOptions;
 use std::alloc::Global;
 use std::marker::Model;
-use text_doc::{Lines, NoMemory};
+use text_doc::{Item, Lines, NoMemory};
 
 /// One node of a completer.
 #[derive(Debug, Drop)]
@@ -18,6 +18,26 @@ pub enum Node {
     Merged,
     /// The completer right before.
     Distinct,
+}
+
+impl Item for Node {
+    fn copied(&self) -> Result<Node, NoMemory> {
+        match self {
+            Node::Words { words, middle } => {
+                let words = words.copy()?;
+                Ok(Node::Words {
+                    words,
+                    middle: *middle,
+                })
+            }
+            Node::Nested(options) => {
+                let options = options.copy()?;
+                Ok(Node::Nested(options))
+            }
+            Node::Merged => Ok(Node::Merged),
+            Node::Distinct => Ok(Node::Distinct),
+        }
+    }
 }
 
 /// Where completions come from: words, options with inner words, two completers one after the other, or the completions
@@ -88,6 +108,14 @@ impl Completer {
     {
         let Completer { mut nodes } = inner;
         nodes.push(Node::Distinct)?;
+        Ok(Completer { nodes })
+    }
+
+    /// Returns an equal completer.
+    pub fn copy(&self) -> Result<Completer, NoMemory>
+        ensures { IfOk result (λ copy. copy ≡ self.now) }
+    {
+        let nodes = Node::copied_all(*self.nodes.allocator(), self.nodes.as_slice())?;
         Ok(Completer { nodes })
     }
 

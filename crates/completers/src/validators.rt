@@ -26,6 +26,22 @@ pub enum Validator {
 }
 
 impl Validator {
+    /// Returns an equal validator.
+    pub fn copy(&self) -> Result<Validator, NoMemory>
+        ensures { IfOk result (λ copy. copy ≡ self.now) }
+    {
+        match self {
+            Validator::Any => Ok(Validator::Any),
+            Validator::NonEmpty => Ok(Validator::NonEmpty),
+            Validator::Number => Ok(Validator::Number),
+            Validator::OneOf(words) => {
+                let words = words.copy()?;
+                Ok(Validator::OneOf(words))
+            }
+            Validator::Balanced => Ok(Validator::Balanced),
+        }
+    }
+
     /// Returns whether the text of the document is valid, and if not where its fault is and what it is.
     pub fn check(&self, alloc: Global, doc: &Doc) -> Result<Verdict, NoMemory>
         ensures { IfOk result (λ verdict. verdict ≡ verdict_of self.now doc.now.text) }

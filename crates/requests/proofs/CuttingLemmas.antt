@@ -8,7 +8,6 @@ use Rattle.std.proofs.lemmas.List.{length-append, length-take, drop-take, take-t
 use Rattle.std.proofs.Math.Nat.{div-le_self}
 use Rattle.text_doc.specs.Document.{Document}
 use Rattle.text_doc.specs.declared.completions.Completion.{Completion}
-use Rattle.completers.specs.declared.listing.TheConstants.{MAX_COMPLETIONS}
 use Rattle.completers.specs.Listed.{all_items}
 use Rattle.completers.specs.Trees.{Tree}
 use Rattle.requests.specs.declared.items.Items.{Items}
@@ -124,7 +123,7 @@ few_parts count few = omega (arith, div-le_self count 64)
 
 few_completions : (completer : Option Tree) (doc : Document) → length (completions_of completer doc) ≤ 10000
 few_completions None doc = omega arith
-few_completions (Some tree) doc = omega (arith, length-take MAX_COMPLETIONS (all_items tree doc))
+few_completions (Some tree) doc = omega (arith, length-take 10000 (all_items tree doc))
 
 few_by : (kind : Kind) (request : RequestFields) → count_in (answer_by kind request) < 4294967295
 few_by Complete request = few_parts (length (completions_for request)) (few_completions request.tools.completer request.doc)
