@@ -119,15 +119,6 @@ pub Grows-wrap : (ws starts caps : List ℕ) (from r c : ℕ) (sizes : List ℕ)
 Grows-wrap ws starts caps from r c sizes goal last h =
     Grows-same ws starts caps from _ _ sizes goal (round_over ws r ∙ ap (turns_taken ws r) (sym last)) h
 
--- a stage whose sum is the goal is over
-pub IsStage-end : (ws starts caps : List ℕ) (from T : ℕ) (sizes : List ℕ) (goal : ℕ) → sum sizes ≡ goal → Grows ws starts caps from T sizes goal → IsStage ws starts caps from goal T sizes
-IsStage-end ws starts caps from T sizes goal full h = record {
-  not_before = h.not_before;
-  after_turns = h.after_turns;
-  reached = full;
-  least = λ t above below e. omega (arith, h.short t above below);
-}
-
 -- where one sum is below another, so is some term
 smaller_term : (xs ys : List ℕ) → length xs ≡ length ys → sum xs < sum ys → (i : ℕ) × (i < length xs) × (get_or xs i 0 < get_or ys i 0)
 smaller_term [] [] e h = absurd (omega arith)

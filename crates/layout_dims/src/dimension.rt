@@ -1,9 +1,11 @@
+//! `Dimension`, how much room a child of a split asks for.
 ghost use Rattle.std.specs.Prelude.{◌≡◌, ◌<◌, ◌≤◌, ◌↔◌, ℕ, Err, IfOk};
 ghost use Rattle.layout_dims.specs.Numbers.{Numbers, IsDimension, brought_into};
 
 use std::marker::Model;
+use thiserror::Error;
 
-// The greatest minimum, maximum and preferred size, in columns or rows.
+/// The greatest minimum, maximum and preferred size, in columns or rows.
 pub(crate) const LARGEST_SIZE: u32 = 1_000_000;
 
 /// How much room a child of a split asks for, along the split: at least and at most so many
@@ -18,11 +20,13 @@ pub struct Dimension {
 }
 
 /// Why four numbers are no dimension.
-#[derive(Clone, Copy, PartialEq, Eq, Debug, Drop)]
+#[derive(Clone, Copy, Debug, PartialEq, Eq, Error)]
 pub enum DimensionFault {
     /// The maximum is below the minimum.
+    #[error("the maximum is below the minimum")]
     MaxBelowMin,
     /// The weight is 0, so the child would never get a turn.
+    #[error("the weight is 0")]
     ZeroWeight,
 }
 
@@ -39,7 +43,7 @@ impl Model for Dimension {
 }
 
 impl Dimension {
-    /// The dimension of these numbers: a maximum of at most 1,000,000 columns or rows, and a weight
+    /// Returns the dimension of these numbers: a maximum of at most 1,000,000 columns or rows, and a weight
     /// of at most 1,000. A preferred size outside the minimum and the maximum is brought to the
     /// nearer of them.
     ///
@@ -73,7 +77,7 @@ impl Dimension {
         })
     }
 
-    // A dimension of weight 1 whose preferred size is in range already.
+    /// Returns a dimension of weight 1 whose preferred size is in range already.
     pub(crate) fn of_sizes(min: u32, max: u32, preferred: u32) -> Dimension
         requires above_minimum { min ≤ preferred }
         requires below_maximum { preferred ≤ max }
@@ -93,7 +97,7 @@ impl Dimension {
         }
     }
 
-    /// The minimum, the maximum, the weight and the preferred size.
+    /// Returns the minimum, the maximum, the weight and the preferred size.
     pub fn numbers(&self) -> (u32, u32, u32, u32)
         ensures minimum { result.0 ≡ self.now.minimum }
         ensures maximum { result.1 ≡ self.now.maximum }

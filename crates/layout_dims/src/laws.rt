@@ -1,5 +1,4 @@
 //! What the order of turns and the division mean, as laws over their definitions. The functions do nothing.
-
 ghost use Rattle.std.specs.Prelude.{◌≡◌, ◌==◌, ℕ, ◌+◌, ◌*◌, ◌<◌, ◌≤◌, Bool, List, All, sum, length, slice_index, count_by};
 ghost use Rattle.layout_dims.specs.Numbers.{Numbers, IsDimension, greatest};
 ghost use Rattle.layout_dims.specs.Turns.{round_of, turn_order, AreWeights};

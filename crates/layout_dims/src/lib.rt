@@ -1,5 +1,4 @@
 //! How a split divides its room among its children: dimensions, their totals, and the division by turns.
-
 #![tactic(auto)]
 
 mod dimension;
@@ -7,14 +6,12 @@ pub mod laws;
 #[cfg(test)]
 mod plain;
 mod room;
-mod sizes;
 mod stage;
 #[cfg(test)]
 mod tests;
 mod totals;
 
 pub use dimension::{Dimension, DimensionFault};
-pub use room::divide;
-pub use sizes::Sizes;
-pub use std::alloc::AllocError as NoMemory;
+pub use room::{Sizes, divide};
+pub use sequences::NoMemory;
 pub use totals::{largest, sum};

@@ -1,5 +1,4 @@
-//! The division as its definition has it, slow and plain: each number of turns is tried, from the least on, and each time all
-//! sizes are reckoned anew. Tests compare it with `divide`.
+//! The division as its definition has it, slow and plain, for tests: each number of turns is tried, from the least on.
 use std::alloc::{AllocError, Global};
 
 /// A child: its minimum, maximum, weight and preferred size.
@@ -8,8 +7,8 @@ pub type Child = (u32, u32, u32, u32);
 /// More turns than any stage of a test takes.
 const MOST_TURNS: u32 = 10_000;
 
-/// How many of the first turns are each child's. The k-th turn of a child stands in round `(k - 1) * greatest / weight + 1`,
-/// and turns stand in order of their rounds, those of one round in order of the children.
+/// Returns how many of the first turns are each child's. The k-th turn of a child stands in round `(k - 1) * greatest
+/// / weight + 1`, and turns stand in order of their rounds, those of one round in order of the children.
 fn turns_among(alloc: Global, children: &[Child], first: u32) -> Result<Vec<u32>, AllocError> {
     let mut greatest = 1;
     let mut taken = Vec::new(alloc);
@@ -33,7 +32,7 @@ fn turns_among(alloc: Global, children: &[Child], first: u32) -> Result<Vec<u32>
     Ok(taken)
 }
 
-/// The sizes of a stage behind some turns: each child grows from its start by its turns, up to its cap.
+/// Returns the sizes of a stage behind some turns: each child grows from its start by its turns, up to its cap.
 fn sizes_behind(
     alloc: Global,
     starts: &[u32],
@@ -49,7 +48,7 @@ fn sizes_behind(
     Ok(sizes)
 }
 
-/// The sum of some sizes.
+/// Returns the sum of some sizes.
 fn total(sizes: &[u32]) -> u32 {
     let mut sum = 0u32;
     for size in sizes {
@@ -58,7 +57,7 @@ fn total(sizes: &[u32]) -> u32 {
     sum
 }
 
-/// A stage: the least number of turns, from these on, whose sizes have the lesser of the room and the sum of the caps.
+/// Finds the least number of turns, from these on, whose sizes have the lesser of the room and the sum of the caps.
 fn stage(
     alloc: Global,
     children: &[Child],
@@ -79,7 +78,7 @@ fn stage(
     Ok((Vec::new(alloc), from))
 }
 
-/// The division of the room, or none where the minima exceed it.
+/// Returns the division of the room, or none where the minima exceed it.
 pub fn plain_division(
     alloc: Global,
     children: &[Child],

@@ -1,3 +1,4 @@
+//! The division of a split's room among its children.
 ghost use Rattle.std.specs.Prelude.{◌≡◌, ◌<◌, ◌≤◌, ◌^◌, ◌↔◌, ℕ, All, slice_index, sum, length, IsNone, IfOk, IfSome};
 ghost use Rattle.layout_dims.specs.Numbers.{IsDimension};
 ghost use Rattle.layout_dims.specs.Division.{weights_of, minima_of, preferred_of, maxima_of, goal_of, caps_of, Stages, Division, IsBetween};
@@ -5,10 +6,14 @@ ghost use Rattle.layout_dims.specs.Turns.{AreWeights};
 ghost use Rattle.layout_dims.specs.Growth.{CanGrow};
 
 use crate::stage::{Place, run_stage};
-use crate::{Dimension, NoMemory, Sizes};
+use crate::{Dimension, NoMemory};
+use sequences::Sequence;
 use std::alloc::Global;
 
-// The least room that is enough for the children of a split: the sum of their minima.
+/// The sizes of the children of a split, in their order, in columns or rows.
+pub type Sizes = Sequence<u32>;
+
+/// Returns the least room that is enough for the children of a split: the sum of their minima.
 fn least_room(parts: &[Dimension]) -> u32
     requires { length parts.now ≤ 1000 }
     ensures minima { result ≡ sum (minima_of parts.now) }
@@ -22,7 +27,7 @@ fn least_room(parts: &[Dimension]) -> u32
     total
 }
 
-// The weight of each part. The three functions below give the other numbers in the same way.
+/// Returns the weight of each part. The three functions below give the other numbers in the same way.
 fn weights(alloc: Global, parts: &[Dimension]) -> Result<Vec<u32>, NoMemory>
     ensures { IfOk result (λ v. v.items ≡ weights_of parts.now) }
 {
@@ -47,7 +52,7 @@ fn maxima(alloc: Global, parts: &[Dimension]) -> Result<Vec<u32>, NoMemory>
     parts.iter().map(|part| part.numbers().1).collect(alloc)
 }
 
-// Runs the first stage and, unless the split is done, the second, on sizes that are the minima.
+/// Runs the first stage and, unless the split is done, the second, on sizes that are the minima.
 fn run_stages(
     weights: &[u32],
     preferred: &[u32],
@@ -78,8 +83,7 @@ fn run_stages(
     }
 }
 
-/// Divides the room of a split among its children, or says that it has too little room for their
-/// minima.
+/// Divides the room of a split among its children. There is no division where the room is too little for their minima.
 ///
 /// Sizes start at the minima. Children get turns one after another, each more often the greater
 /// its weight, and a turn adds one to a child below its cap. The caps are the preferred sizes
@@ -115,5 +119,5 @@ pub fn divide(
     let mut sizes = minima(alloc, parts)?;
     let growing = sizes.as_mut_slice();
     run_stages(&weights, &preferred, &maxima, room, done, growing);
-    Ok(Some(Sizes::from_items(sizes)))
+    Ok(Some(Sizes::from_vec(sizes)))
 }

@@ -1,18 +1,19 @@
+//! A stage of a division: turns, until the sum of the sizes is reached.
 ghost use Rattle.std.specs.Prelude.{◌≡◌, ℕ, ◌+◌, ◌<◌, ◌≤◌, sum, length, List, if◌then◌else◌};
 ghost use Rattle.layout_dims.specs.Numbers.{greatest};
 ghost use Rattle.layout_dims.specs.Turns.{takes_turn, turns_taken, AreWeights};
 ghost use Rattle.layout_dims.specs.Division.{IsStage};
 ghost use Rattle.layout_dims.specs.Growth.{Grows, IsNext, CanGrow};
 
-// A place in the order of turns: so many rounds are over, and in the round after them the
-// children below `child` had their turns.
+/// A place in the order of turns: so many rounds are over, and in the round after them the children below `child` had
+/// their turns.
 #[derive(Clone, Copy, Drop)]
 pub(crate) struct Place {
     pub(crate) rounds: u32,
     pub(crate) child: usize,
 }
 
-// The greatest of the numbers, or 0.
+/// Returns the greatest of the numbers, or 0.
 fn greatest_of(numbers: &[u32]) -> u32
     ensures { result ≡ greatest numbers.now }
 {
@@ -23,9 +24,9 @@ fn greatest_of(numbers: &[u32]) -> u32
     most
 }
 
-// Whether a child has a turn in the round after these. Its k-th turn stands in round
-// floor((k - 1) * greatest / weight) + 1, so a turn stands in this round where a multiple of
-// `greatest` lies in [rounds * weight, rounds * weight + weight).
+/// Tells whether a child has a turn in the round after these. Its k-th turn stands in round
+/// floor((k - 1) * greatest / weight) + 1, so a turn stands in this round where a multiple of
+/// `greatest` lies in [rounds * weight, rounds * weight + weight).
 fn has_turn(rounds: u32, weight: u32, greatest_weight: u32) -> bool
     requires positive { 0 < weight }
     requires within { weight ≤ greatest_weight }
@@ -37,8 +38,8 @@ fn has_turn(rounds: u32, weight: u32, greatest_weight: u32) -> bool
     past == 0 || greatest_weight < past + weight
 }
 
-// Gives the child at this place its turn, where it has one and is below its cap, and goes to
-// the next place. Says whether the child grew.
+/// Gives the child at this place its turn, where it has one and is below its cap, and goes to the next place. Returns
+/// whether the child grew.
 fn visit(
     weights: &[u32],
     caps: &[u32],
@@ -53,8 +54,10 @@ fn visit(
     requires place_in { place.old.child ≤ length weights.now }
     requires rounds_in { place.old.rounds < 2004000 }
     ensures grows { (starts : List ℕ) (from goal : ℕ) → sum sizes.old < goal
-        → Grows weights.now starts caps.now from (turns_taken weights.now place.old.rounds place.old.child) sizes.old goal
-        → Grows weights.now starts caps.now from (turns_taken weights.now place.new.rounds place.new.child) sizes.new goal }
+        → Grows weights.now starts caps.now from
+        (turns_taken weights.now place.old.rounds place.old.child) sizes.old goal
+        → Grows weights.now starts caps.now from
+        (turns_taken weights.now place.new.rounds place.new.child) sizes.new goal }
     ensures total { sum sizes.new ≡ sum sizes.old + (if result then 1 else 0) }
     ensures next { IsNext (length weights.now)
         place.old.rounds place.old.child place.new.rounds place.new.child }
@@ -76,7 +79,7 @@ fn visit(
     true
 }
 
-// Gives turns in their order, from this place on, until the sum of the sizes is the goal.
+/// Gives turns in their order, from this place on, until the sum of the sizes is the goal.
 pub(crate) fn run_stage(
     weights: &[u32],
     caps: &[u32],

@@ -1,3 +1,4 @@
+//! Dimensions, their totals and divisions, worked by hand, and divisions by the plain program.
 use crate::plain::{Child, plain_division};
 use crate::{Dimension, DimensionFault, Sizes, divide, largest, sum};
 use std::alloc::Global;
@@ -19,7 +20,7 @@ fn dimensions(rt: &impl Abort, alloc: Global, children: &[Child]) -> Result<Vec<
     Ok(parts)
 }
 
-// The sizes that the division gives, or none where it refuses.
+/// Returns the sizes that the division gives, or none where it refuses.
 fn divided(
     rt: &impl Abort,
     alloc: Global,
@@ -60,6 +61,22 @@ fn makes_dimensions(rt: HostRuntime) {
 }
 
 #[test]
+fn tells_faults(rt: HostRuntime) -> Result<(), Fail> {
+    let sentences = [
+        (
+            DimensionFault::MaxBelowMin,
+            "the maximum is below the minimum",
+        ),
+        (DimensionFault::ZeroWeight, "the weight is 0"),
+    ];
+    for (fault, sentence) in sentences {
+        let told = format!(in rt.alloc(); "{fault}")?;
+        assert_eq!(rt; told.as_str(), sentence);
+    }
+    Ok(())
+}
+
+#[test]
 fn adds_up_parts(rt: HostRuntime) -> Result<(), Fail> {
     let few = dimensions(&rt, rt.alloc(), &[(1, 5, 2, 3), (2, 7, 9, 2)])?;
     assert_eq!(rt; sum(few.as_slice()).numbers(), (3, 12, 1, 5));
@@ -78,18 +95,6 @@ fn adds_up_parts(rt: HostRuntime) -> Result<(), Fail> {
 
     assert_eq!(rt; sum(&[]).numbers(), (0, 0, 1, 0));
     assert_eq!(rt; largest(&[]).numbers(), (0, 0, 1, 0));
-    Ok(())
-}
-
-#[test]
-fn keeps_sizes(rt: HostRuntime) -> Result<(), Fail> {
-    let mut sizes = Sizes::new(rt.alloc());
-    assert_eq!(rt; sizes.len(), 0);
-    sizes.push(4)?;
-    sizes.push(7)?;
-    let copied = sizes.copy()?;
-    assert_eq!(rt; copied.as_slice(), [4, 7].as_slice());
-    assert_eq!(rt; (copied.get(1), copied.get(2)), (Some(7), None));
     Ok(())
 }
 

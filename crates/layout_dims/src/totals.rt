@@ -1,10 +1,11 @@
+//! What the children of a split ask for together.
 ghost use Rattle.std.specs.Prelude.{◌≡◌};
 ghost use Rattle.layout_dims.specs.Numbers.{sum_of, largest_of};
 
 use crate::Dimension;
 use crate::dimension::LARGEST_SIZE;
 
-/// What children that stand one after another along the split ask for together.
+/// Returns what children that stand one after another along the split ask for together.
 pub fn sum(parts: &[Dimension]) -> Dimension
     ensures { result ≡ sum_of parts.now }
 {
@@ -20,7 +21,7 @@ pub fn sum(parts: &[Dimension]) -> Dimension
     Dimension::of_sizes(min, max, preferred)
 }
 
-/// What children that share one place across the split ask for together: 0 where there are none.
+/// Returns what children that share one place across the split ask for together: 0 where there are none.
 pub fn largest(parts: &[Dimension]) -> Dimension
     ensures { result ≡ largest_of parts.now }
 {

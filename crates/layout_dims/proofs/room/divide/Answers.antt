@@ -36,10 +36,10 @@ run_stages-requires-clause-maxima_sum c =
 
 pub returns-clause-between : goal.returns-clause-between
 returns-clause-between c =
-    let divided : Division c.args.parts.now c.args.room c.args.done c.from_items.result = grind (arith, common_steps) in
+    let divided : Division c.args.parts.now c.args.room c.args.done c.from_vec.result = grind (arith, common_steps) in
     division_between _ _ _ _ c.least_room.ensures.ordered divided
 
 pub returns-clause-filled : goal.returns-clause-filled
 returns-clause-filled c =
-    let divided : Division c.args.parts.now c.args.room c.args.done c.from_items.result = grind (arith, common_steps) in
+    let divided : Division c.args.parts.now c.args.room c.args.done c.from_vec.result = grind (arith, common_steps) in
     division_filled _ _ _ _ divided
