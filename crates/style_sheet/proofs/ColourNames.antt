@@ -1,6 +1,6 @@
 -- The names of colours: of which colours a text is no name, and six digits.
 use Rattle.std.proofs.Common.{◌≡◌, ℕ, ◌+◌, ◌*◌, ◌/◌, ◌%◌, ◌<◌, ◌⊎◌, true, List, [], ◌∷◌, ◌++◌, length, get_or, slice_index_or, refl, subst, ◌∙◌, zero-add, arith}
-use Rattle.std.specs.Prelude.{◌==◌, not}
+use Rattle.std.specs.Prelude.{◌==◌, not, nat_lt}
 use Rattle.std.specs.List.{AllByRecursion}
 use Rattle.std.specs.Char.{digit_char, digit_value}
 use Rattle.std.proofs.lemmas.Bool.Decides.{nat_tests}
@@ -46,6 +46,9 @@ pair_value-hex_pair n fits =
     let high : n / 16 < 36 = omega arith in
     let low : n % 16 < 36 = omega arith in
     rw (digit_value-digit_char (n / 16) high, digit_value-digit_char (n % 16) low) (omega arith)
+
+pub digit_char-ascii : (d : ℕ) → d < 16 → nat_lt (digit_char d) 128 ≡ true
+digit_char-ascii d fits = grind (arith, nat_tests)
 
 -- a digit is no separator
 pub digit_char-apart : (d c : ℕ) → d < 16 → (c < 48) ⊎ ((57 < c) × (c < 97)) → not (digit_char d == c) ≡ true

@@ -1,6 +1,7 @@
 pub mod Cascades
 pub mod ColourFolds
 pub mod ColourNames
+pub mod KnownClasses
 pub mod Parts
 pub mod PatchFolds
 pub mod RuleTexts

@@ -39,15 +39,15 @@ lacks-unequal c text none = All-weaker (λ b. (b == c) ≡ false) (λ b. b ≢ c
 pub and_from : (a b : Bool) → a ≡ true → b ≡ true → (a && b) ≡ true
 and_from a b p q = ap (λ x. x && b) p ∙ q
 
-pub lacks-append : (c : ℕ) (xs ys : List ℕ) → lacks c xs ≡ true → lacks c ys ≡ true → lacks c (xs ++ ys) ≡ true
-lacks-append c xs ys p q = list_all-append (λ b. not (b == c)) xs ys ∙ and_from (lacks c xs) (lacks c ys) p q
+pub all-append : (test : ℕ → Bool) (xs ys : List ℕ) → list_all test xs ≡ true → list_all test ys ≡ true → list_all test (xs ++ ys) ≡ true
+all-append test xs ys p q = list_all-append test xs ys ∙ and_from (list_all test xs) (list_all test ys) p q
 
--- texts joined with another byte lack what each of them lacks
-pub lacks-join : (c d : ℕ) (ps : List (List ℕ)) → not (d == c) ≡ true → AllByRecursion (λ p. lacks c p ≡ true) ps → lacks c (join_with_byte d ps) ≡ true
-lacks-join c d [] other each = refl
-lacks-join c d (p ∷ []) other each = each.0
-lacks-join c d (p ∷ q ∷ ps) other each =
-    lacks-append c p (d ∷ join_with_byte d (q ∷ ps)) each.0 (and_from (not (d == c)) (lacks c (join_with_byte d (q ∷ ps))) other (lacks-join c d (q ∷ ps) other each.1))
+-- what holds of each byte of some texts and of the byte that joins them holds of each byte of all
+pub all-join : (test : ℕ → Bool) (d : ℕ) (ps : List (List ℕ)) → test d ≡ true → AllByRecursion (λ p. list_all test p ≡ true) ps → list_all test (join_with_byte d ps) ≡ true
+all-join test d [] joins each = refl
+all-join test d (p ∷ []) joins each = each.0
+all-join test d (p ∷ q ∷ ps) joins each =
+    all-append test p (d ∷ join_with_byte d (q ∷ ps)) each.0 (and_from (test d) (list_all test (join_with_byte d (q ∷ ps))) joins (all-join test d (q ∷ ps) joins each.1))
 
 -- what one cut of a text says of its parts
 pub cut_parts : (c : ℕ) (text part : List ℕ) (behind : Option (Bor (List ℕ))) → MatchOption behind (text ≡ part) (λ b. text ≡ part ++ c ∷ b.now) → All (λ b. b ≢ c) part → parts c text ≡ part ∷ left_parts c behind

@@ -1,6 +1,6 @@
 -- The texts of rules: what separates them is in none, and each is that of one rule.
-use Rattle.std.proofs.Common.{◌≡◌, ℕ, ◌<◌, true, List, [], ◌∷◌, ◌++◌, map, length, take, Option, Some, refl, sym, ap, subst, ◌∙◌, append_assoc, ⊎_elim, ◌⊎◌, inl, inr, ◌≤◌, arith}
-use Rattle.std.specs.Prelude.{◌≢◌, All}
+use Rattle.std.proofs.Common.{◌≡◌, ℕ, ◌<◌, true, false, List, [], ◌∷◌, ◌++◌, map, length, take, Option, Some, refl, sym, ap, subst, ◌∙◌, append_assoc, ⊎_elim, ◌⊎◌, inl, inr, ◌≤◌, arith}
+use Rattle.std.specs.Prelude.{◌==◌, ◌≢◌, not, All}
 use Rattle.std.specs.List.{AllByRecursion, find, join_with_byte}
 use Rattle.std.specs.Str.{bytes_eq}
 use Rattle.std.proofs.lemmas.List.{length-append, length-map, length-take, get_or-take}
@@ -11,12 +11,13 @@ use Rattle.std.proofs.lemmas.List.Splits.{join_with_byte-slice_split}
 use Rattle.style_sheet.specs.declared.classes.Class.{Class}
 use Rattle.style_sheet.specs.declared.classes.Class.TheVariants.{Prompt, Continuation, RightPrompt, ArgToolbar, SearchToolbar, ControlCharacter, Selected, BottomToolbar, AutoSuggestion, ValidationToolbar, CompletionMenu, Completion, CurrentCompletion}
 use Rattle.style_sheet.specs.declared.changes.Change.{Change}
+use Rattle.style_sheet.specs.Ascii.{is_ascii}
 use Rattle.style_sheet.specs.ClassName.{class_name, classes}
 use Rattle.style_sheet.specs.declared.faults.StyleFault.{StyleFault}
 use Rattle.style_sheet.specs.declared.faults.StyleFault.TheVariants.{BadStyle, NoMemory}
 use Rattle.style_sheet.specs.StyleRule.{StyleRule}
 use Rattle.style_sheet.specs.Grammar.{IsRule, IsRuleText, IsCauseOf, IsFirstOutside, Spells, words_text, rule_text, sheet_text, parts_of}
-use Rattle.style_sheet.proofs.Parts.{parts, lacks, lacks-append, lacks-unequal, parts-join, each_text, map-same, same_cut}
+use Rattle.style_sheet.proofs.Parts.{parts, lacks, all-append, lacks-unequal, parts-join, each_text, map-same, same_cut}
 use Rattle.style_sheet.proofs.WordTexts.{words_text-lacks, words_text-same}
 
 -- the class with this name
@@ -46,24 +47,30 @@ class_name-same a b e =
     let z : class_of (class_name a) ≡ class_of (class_name b) = ap (λ name. class_of name) e in
     cc
 
--- neither an equals sign nor a semicolon is in the text
+-- the text is ASCII, and neither an equals sign nor a semicolon is in it
 abbrev IsName : List ℕ → Type 0
-IsName text = (lacks 61 text ≡ true) × (lacks 59 text ≡ true)
+IsName text = (lacks 61 text ≡ true) × (lacks 59 text ≡ true) × (is_ascii text ≡ true)
 
 class_name-plain : (class : Class) → IsName (class_name class)
-class_name-plain Prompt = (refl, refl)
-class_name-plain Continuation = (refl, refl)
-class_name-plain RightPrompt = (refl, refl)
-class_name-plain ArgToolbar = (refl, refl)
-class_name-plain SearchToolbar = (refl, refl)
-class_name-plain ControlCharacter = (refl, refl)
-class_name-plain Selected = (refl, refl)
-class_name-plain BottomToolbar = (refl, refl)
-class_name-plain AutoSuggestion = (refl, refl)
-class_name-plain ValidationToolbar = (refl, refl)
-class_name-plain CompletionMenu = (refl, refl)
-class_name-plain Completion = (refl, refl)
-class_name-plain CurrentCompletion = (refl, refl)
+class_name-plain Prompt = (refl, refl, refl)
+class_name-plain Continuation = (refl, refl, refl)
+class_name-plain RightPrompt = (refl, refl, refl)
+class_name-plain ArgToolbar = (refl, refl, refl)
+class_name-plain SearchToolbar = (refl, refl, refl)
+class_name-plain ControlCharacter = (refl, refl, refl)
+class_name-plain Selected = (refl, refl, refl)
+class_name-plain BottomToolbar = (refl, refl, refl)
+class_name-plain AutoSuggestion = (refl, refl, refl)
+class_name-plain ValidationToolbar = (refl, refl, refl)
+class_name-plain CompletionMenu = (refl, refl, refl)
+class_name-plain Completion = (refl, refl, refl)
+class_name-plain CurrentCompletion = (refl, refl, refl)
+
+-- a name that is not ASCII is no class's
+pub class_name-unlike : (name : List ℕ) → is_ascii name ≡ false → (class : Class) → class_name class ≡ name → ⊥
+class_name-unlike name other class is =
+    let ascii : is_ascii name ≡ true = ap is_ascii (sym is) ∙ (class_name-plain class).2 in
+    cc
 
 -- a rule's text begins with its class and an equals sign
 rule_text-is : (rule : StyleRule) → rule_text rule ≡ class_name rule.class ++ 61 ∷ words_text rule.changes
@@ -82,7 +89,7 @@ unknown_class text name behind whole first none (rule, have, is) = none rule.cla
 -- no semicolon is in a rule's text
 rule_text-lacks : (rule : StyleRule) → IsRule rule → lacks 59 (rule_text rule) ≡ true
 rule_text-lacks rule have =
-    rw rule_text-is (lacks-append 59 (class_name rule.class) (61 ∷ words_text rule.changes) (class_name-plain rule.class).1 (words_text-lacks rule.changes have))
+    rw rule_text-is (all-append (λ c. not (c == 59)) (class_name rule.class) (61 ∷ words_text rule.changes) (class_name-plain rule.class).1 (words_text-lacks rule.changes have))
 
 abbrev rule_from : Class → List Change → StyleRule
 rule_from class changes = record { class = class; changes = changes }

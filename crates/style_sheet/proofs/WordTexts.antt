@@ -1,7 +1,7 @@
 -- The words of changes: none has a separator in it, and each is that of one change.
-use Rattle.std.proofs.Common.{◌≡◌, ℕ, ◌/◌, ◌%◌, ◌<◌, ◌⊎◌, inl, inr, true, false, cond, List, [], ◌∷◌, ◌++◌, map, length, take, drop, get_or, Option, Some, None, IfSome, refl, sym, ap, ◌∙◌, arith}
-use Rattle.std.specs.Prelude.{◌==◌, ◌&&◌, not, codes, position}
-use Rattle.std.specs.List.{AllByRecursion, find, join_with_byte}
+use Rattle.std.proofs.Common.{◌≡◌, ℕ, ◌/◌, ◌%◌, ◌<◌, inl, inr, Bool, true, false, cond, List, [], ◌∷◌, ◌++◌, map, length, take, drop, get_or, Option, Some, None, IfSome, refl, sym, ap, ◌∙◌, arith}
+use Rattle.std.specs.Prelude.{◌==◌, ◌&&◌, not, codes, position, nat_lt}
+use Rattle.std.specs.List.{AllByRecursion, find, list_all, join_with_byte}
 use Rattle.std.specs.Option.{option_map}
 use Rattle.std.specs.Str.{bytes_eq}
 use Rattle.std.specs.Char.{digit_char}
@@ -13,10 +13,11 @@ use Rattle.style_sheet.specs.declared.changes.Flag.{Flag}
 use Rattle.style_sheet.specs.declared.changes.Flag.TheVariants.{Bold, Italic, Underline, Blink, Reverse, Hidden, Strike}
 use Rattle.style_sheet.specs.declared.changes.Change.{Change}
 use Rattle.style_sheet.specs.declared.changes.Change.TheVariants.{Switch, Foreground, Background}
+use Rattle.style_sheet.specs.Ascii.{is_ascii}
 use Rattle.style_sheet.specs.Spelling.{ansi_names, flag_name, colour_name, colour_word, change_word, hex_pair, IsColour, IsChange}
 use Rattle.style_sheet.specs.Grammar.{HaveWords, IsWords, words_text}
-use Rattle.style_sheet.proofs.ColourNames.{below_sixteen, pair_value, pair_value-hex_pair, digit_char-apart}
-use Rattle.style_sheet.proofs.Parts.{parts, lacks, lacks-append, lacks-join, and_from, parts-some, parts-join, each_text, among, map-same}
+use Rattle.style_sheet.proofs.ColourNames.{below_sixteen, pair_value, pair_value-hex_pair, digit_char-apart, digit_char-ascii}
+use Rattle.style_sheet.proofs.Parts.{parts, lacks, all-append, all-join, and_from, parts-some, parts-join, each_text, among, map-same}
 use Rattle.style_sheet.proofs.Tables.{flags}
 
 -- the flag with this name
@@ -68,50 +69,61 @@ change_word-same a b p q e =
     let z : change_of (change_word a) ≡ change_of (change_word b) = ap (λ word. change_of word) e in
     cc
 
--- neither a space nor a semicolon is in a text
+-- a text is ASCII, and neither a space nor a semicolon is in it
 abbrev pub IsClean : List ℕ → Type 0
-IsClean text = (lacks 32 text ≡ true) × (lacks 59 text ≡ true)
+IsClean text = (lacks 32 text ≡ true) × (lacks 59 text ≡ true) × (is_ascii text ≡ true)
 
-lacks-hex_pair : (c n : ℕ) → c < 48 ⊎ ((57 < c) × (c < 97)) → n < 256 → lacks c (hex_pair n) ≡ true
-lacks-hex_pair c n apart fits =
-    and_from (not (digit_char (n / 16) == c)) (not (digit_char (n % 16) == c) && true) (digit_char-apart (n / 16) c (omega arith) apart)
-    (and_from (not (digit_char (n % 16) == c)) true (digit_char-apart (n % 16) c (omega arith) apart) refl)
+-- a test that each digit passes
+abbrev TakesDigits : (ℕ → Bool) → Type 0
+TakesDigits test = (d : ℕ) → d < 16 → test (digit_char d) ≡ true
 
-lacks-digits : (c r g b : ℕ) → c < 48 ⊎ ((57 < c) × (c < 97)) → r < 256 → g < 256 → b < 256 → lacks c (hex_pair r ++ (hex_pair g ++ hex_pair b)) ≡ true
-lacks-digits c r g b apart x y z =
-    lacks-append c (hex_pair r) (hex_pair g ++ hex_pair b) (lacks-hex_pair c r apart x) (lacks-append c (hex_pair g) (hex_pair b) (lacks-hex_pair c g apart y) (lacks-hex_pair c b apart z))
+all-hex_pair : (test : ℕ → Bool) (n : ℕ) → TakesDigits test → n < 256 → list_all test (hex_pair n) ≡ true
+all-hex_pair test n takes fits =
+    and_from (test (digit_char (n / 16))) (test (digit_char (n % 16)) && true) (takes (n / 16) (omega arith))
+    (and_from (test (digit_char (n % 16))) true (takes (n % 16) (omega arith)) refl)
+
+all-digits : (test : ℕ → Bool) (r g b : ℕ) → TakesDigits test → r < 256 → g < 256 → b < 256 → list_all test (hex_pair r ++ (hex_pair g ++ hex_pair b)) ≡ true
+all-digits test r g b takes x y z =
+    all-append test (hex_pair r) (hex_pair g ++ hex_pair b) (all-hex_pair test r takes x) (all-append test (hex_pair g) (hex_pair b) (all-hex_pair test g takes y) (all-hex_pair test b takes z))
 
 colour_word-clean : (colour : Option Colour) → IfSome colour IsColour → IsClean (colour_word colour)
-colour_word-clean None fits = (refl, refl)
+colour_word-clean None fits = (refl, refl, refl)
 colour_word-clean (Some (Ansi n)) fits = below_sixteen (λ n. IsClean (colour_name (Ansi n)))
-    ((refl, refl), ((refl, refl), ((refl, refl), ((refl, refl), ((refl, refl), ((refl, refl), ((refl, refl), ((refl, refl), ((refl, refl), ((refl, refl), ((refl, refl), ((refl, refl), ((refl, refl), ((refl, refl), ((refl, refl), ((refl, refl), tt)))))))))))))))) n fits
+    ((refl, refl, refl), ((refl, refl, refl), ((refl, refl, refl), ((refl, refl, refl), ((refl, refl, refl), ((refl, refl, refl), ((refl, refl, refl), ((refl, refl, refl), ((refl, refl, refl), ((refl, refl, refl), ((refl, refl, refl), ((refl, refl, refl), ((refl, refl, refl), ((refl, refl, refl), ((refl, refl, refl), ((refl, refl, refl), tt)))))))))))))))) n fits
 colour_word-clean (Some (Rgb r g b)) fits = (
-  lacks-digits 32 r g b (inl (omega arith)) fits.0 fits.1 fits.2,
-  lacks-digits 59 r g b (inr (omega arith, omega arith)) fits.0 fits.1 fits.2,
+  all-digits (λ c. not (c == 32)) r g b (λ d inside. digit_char-apart d 32 inside (inl (omega arith))) fits.0 fits.1 fits.2,
+  all-digits (λ c. not (c == 59)) r g b (λ d inside. digit_char-apart d 59 inside (inr (omega arith, omega arith))) fits.0 fits.1 fits.2,
+  all-digits (λ c. nat_lt c 128) r g b digit_char-ascii fits.0 fits.1 fits.2,
 )
 
 change_word-clean : (change : Change) → IsChange change → IsClean (change_word change)
-change_word-clean (Switch Bold true) fits = (refl, refl)
-change_word-clean (Switch Italic true) fits = (refl, refl)
-change_word-clean (Switch Underline true) fits = (refl, refl)
-change_word-clean (Switch Blink true) fits = (refl, refl)
-change_word-clean (Switch Reverse true) fits = (refl, refl)
-change_word-clean (Switch Hidden true) fits = (refl, refl)
-change_word-clean (Switch Strike true) fits = (refl, refl)
-change_word-clean (Switch Bold false) fits = (refl, refl)
-change_word-clean (Switch Italic false) fits = (refl, refl)
-change_word-clean (Switch Underline false) fits = (refl, refl)
-change_word-clean (Switch Blink false) fits = (refl, refl)
-change_word-clean (Switch Reverse false) fits = (refl, refl)
-change_word-clean (Switch Hidden false) fits = (refl, refl)
-change_word-clean (Switch Strike false) fits = (refl, refl)
+change_word-clean (Switch Bold true) fits = (refl, refl, refl)
+change_word-clean (Switch Italic true) fits = (refl, refl, refl)
+change_word-clean (Switch Underline true) fits = (refl, refl, refl)
+change_word-clean (Switch Blink true) fits = (refl, refl, refl)
+change_word-clean (Switch Reverse true) fits = (refl, refl, refl)
+change_word-clean (Switch Hidden true) fits = (refl, refl, refl)
+change_word-clean (Switch Strike true) fits = (refl, refl, refl)
+change_word-clean (Switch Bold false) fits = (refl, refl, refl)
+change_word-clean (Switch Italic false) fits = (refl, refl, refl)
+change_word-clean (Switch Underline false) fits = (refl, refl, refl)
+change_word-clean (Switch Blink false) fits = (refl, refl, refl)
+change_word-clean (Switch Reverse false) fits = (refl, refl, refl)
+change_word-clean (Switch Hidden false) fits = (refl, refl, refl)
+change_word-clean (Switch Strike false) fits = (refl, refl, refl)
 change_word-clean (Foreground colour) fits = colour_word-clean colour fits
 change_word-clean (Background colour) fits = colour_word-clean colour fits
+
+-- a word that is not ASCII is no change's
+pub change_word-unlike : (word : List ℕ) → is_ascii word ≡ false → (change : Change) → IsChange change → change_word change ≡ word → ⊥
+change_word-unlike word other change fits is =
+    let ascii : is_ascii word ≡ true = ap is_ascii (sym is) ∙ (change_word-clean change fits).2 in
+    cc
 
 -- no semicolon is in the text of changes
 pub words_text-lacks : (changes : List Change) → HaveWords changes → lacks 59 (words_text changes) ≡ true
 words_text-lacks changes have =
-    lacks-join 59 32 (map change_word changes) refl (each_text change_word IsChange (λ word. lacks 59 word ≡ true) (λ change fits. (change_word-clean change fits).1) changes have.each)
+    all-join (λ c. not (c == 59)) 32 (map change_word changes) refl (each_text change_word IsChange (λ word. lacks 59 word ≡ true) (λ change fits. (change_word-clean change fits).1) changes have.each)
 
 -- the text of changes, cut at its spaces, is their words
 pub parts-words_text : (changes : List Change) → HaveWords changes → parts 32 (words_text changes) ≡ map change_word changes

@@ -1,4 +1,4 @@
-// What a word of a rule changes.
+//! What a word of a rule changes.
 ghost use Rattle.std.specs.Prelude.{◌≡◌, fold};
 ghost use Rattle.style_sheet.specs.Cascade.{changed, switched};
 
@@ -25,7 +25,7 @@ pub(crate) enum Change {
 }
 
 impl Change {
-    /// The attributes after the change.
+    /// Returns the attributes after the change.
     pub(crate) fn applied_to(self, attrs: Attrs) -> Attrs
         ensures { result ≡ changed attrs self }
     {
@@ -37,7 +37,7 @@ impl Change {
     }
 }
 
-/// The attributes after changes, from the first on.
+/// Returns the attributes after changes, from the first on.
 pub(crate) fn apply_all(attrs: Attrs, changes: &[Change]) -> Attrs
     ensures { result ≡ fold changed attrs changes.now }
 {

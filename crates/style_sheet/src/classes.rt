@@ -1,4 +1,4 @@
-// The classes in use.
+//! The classes in use.
 ghost use Rattle.std.specs.Prelude.{◌≡◌, ◌≢◌, ◌<◌, ◌↔◌, IfSome, IfNone, IsTrue};
 ghost use Rattle.style_sheet.specs.declared.classes.Class.{Class};
 ghost use Rattle.style_sheet.specs.declared.classes.TheConstants.{CLASS_COUNT};
@@ -47,7 +47,7 @@ const CLASSES: [Class; CLASS_COUNT] = [
     Class::CurrentCompletion,
 ];
 
-/// The class with this name.
+/// Returns the class with this name.
 pub(crate) fn find_class(name: &[u8]) -> Option<Class>
     ensures found { IfSome result (λ class. class_name class ≡ name.now) }
     ensures none { IfNone result ((class : Class) → class_name class ≢ name.now) }
@@ -87,7 +87,7 @@ fn class_name(class: Class) -> &'static [u8]
 }
 
 impl Class {
-    /// The place of the class among all of them.
+    /// Returns the place of the class among all of them.
     pub(crate) fn place(self) -> usize
         ensures is { result ≡ place self }
         ensures below { result < CLASS_COUNT }
@@ -95,7 +95,7 @@ impl Class {
         self as usize
     }
 
-    /// What the class changes where no rule is for it.
+    /// Returns what the class changes where no rule is for it.
     pub(crate) fn default_changes(self) -> &'static [Change]
         ensures { result.now ≡ default_of self }
     {

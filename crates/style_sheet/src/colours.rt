@@ -1,4 +1,4 @@
-// Colours, by their names.
+//! Colours, by their names.
 ghost use Rattle.std.specs.Prelude.{◌≡◌, ◌≢◌, ◌<◌, ℕ, Option, IfSome, IfNone, slice_index_or, [], ◌∷◌, ◌++◌};
 ghost use Rattle.std.specs.Char.{digit_char};
 ghost use Rattle.cell_grid.specs.declared.attrs.Colour.{Colour};
@@ -7,7 +7,7 @@ ghost use Rattle.style_sheet.specs.Spelling.{hue_names, ansi_names, hex_pair, co
 
 use cell_grid::Colour;
 
-/// The colour with this name, or no colour by the name of the terminal's own.
+/// Returns the colour with this name, or no colour by the name of the terminal's own.
 pub(crate) fn find_colour_word(name: &[u8]) -> Option<Option<Colour>>
     ensures found { IfSome result (λ colour. IfSome colour IsColour × (colour_word colour ≡ name.now)) }
     ensures none { IfNone result ((colour : Option Colour) → IfSome colour IsColour → colour_word colour ≢ name.now) }
@@ -30,7 +30,7 @@ fn find_colour(name: &[u8]) -> Option<Colour>
     Some(Colour::Ansi(number))
 }
 
-/// The number of the colour with this name, of the sixteen.
+/// Returns the number of the colour with this name, of the sixteen.
 fn find_ansi(name: &[u8]) -> Option<u8>
     ensures found { IfSome result (λ n. (n < 16) × (slice_index_or ansi_names n [] ≡ name.now)) }
     ensures none { IfNone result ((n : ℕ) → n < 16 → slice_index_or ansi_names n [] ≢ name.now) }
@@ -73,7 +73,7 @@ fn hue_name(number: u8) -> &'static [u8]
     }
 }
 
-/// The colour of `#` and six digits.
+/// Returns the colour of `#` and six digits.
 fn find_rgb(name: &[u8]) -> Option<Colour>
     ensures found { IfSome result (λ colour. IsColour colour × (colour_name colour ≡ name.now)) }
     ensures none { IfNone result ((r g b : ℕ) → r < 256 → g < 256 → b < 256 → colour_name (Rgb r g b) ≢ name.now) }
@@ -87,7 +87,7 @@ fn find_rgb(name: &[u8]) -> Option<Colour>
     Some(Colour::Rgb(red, green, blue))
 }
 
-/// The number of two digits.
+/// Returns the number of two digits.
 fn find_byte(high: u8, low: u8) -> Option<u8>
     ensures found { IfSome result (λ n. hex_pair n ≡ high ∷ low ∷ []) }
     ensures none { IfNone result ((n : ℕ) → n < 256 → hex_pair n ≢ high ∷ low ∷ []) }
@@ -97,7 +97,7 @@ fn find_byte(high: u8, low: u8) -> Option<u8>
     Some(high * 16 + low)
 }
 
-/// The value of a digit of `0-9a-f`.
+/// Returns the value of a digit of `0-9a-f`.
 fn find_digit(digit: u8) -> Option<u8>
     ensures found { IfSome result (λ n. (n < 16) × (digit_char n ≡ digit)) }
     ensures none { IfNone result ((n : ℕ) → n < 16 → digit_char n ≢ digit) }

@@ -1,4 +1,5 @@
-// Why a text is no sheet.
+//! Why a text is no sheet.
+use sequences::NoMemory;
 use std::alloc::AllocFailed;
 use thiserror::Error;
 
@@ -13,13 +14,13 @@ pub enum StyleFault {
     NoMemory,
 }
 
-impl From<cell_grid::NoMemory> for StyleFault {
+impl From<NoMemory> for StyleFault {
     ghost use Rattle.std.specs.Prelude.{◌≡◌};
     ghost use Rattle.style_sheet.specs.declared.faults.StyleFault.TheVariants.{NoMemory};
 
     ghost from_gives = { λ _ fault. fault ≡ NoMemory };
 
-    fn from(_error: cell_grid::NoMemory) -> StyleFault {
+    fn from(_error: NoMemory) -> StyleFault {
         StyleFault::NoMemory
     }
 }

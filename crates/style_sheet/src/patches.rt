@@ -1,4 +1,4 @@
-// What changes together do, whatever the attributes were before.
+//! What changes together do, whatever the attributes were before.
 ghost use Rattle.std.specs.Prelude.{◌≡◌, fold};
 ghost use Rattle.style_sheet.specs.Patches.{no_changes, patched, set_flag, with_change};
 
@@ -6,7 +6,7 @@ use crate::changes::{Change, Flag};
 use cell_grid::{Attrs, Colour};
 
 /// What each attribute is set to, if it is.
-#[derive(Clone, Copy)]
+#[derive(Clone, Copy, Debug)]
 pub(crate) struct Patch {
     fg: Option<Option<Colour>>,
     bg: Option<Option<Colour>>,
@@ -20,7 +20,7 @@ pub(crate) struct Patch {
 }
 
 impl Patch {
-    /// The patch that sets nothing.
+    /// Returns the patch that sets nothing.
     pub(crate) fn empty() -> Patch
         ensures { result ≡ no_changes }
     {
@@ -37,7 +37,7 @@ impl Patch {
         }
     }
 
-    /// The attributes after the patch.
+    /// Returns the attributes after the patch.
     pub(crate) fn applied_to(self, attrs: Attrs) -> Attrs
         ensures { result ≡ patched attrs self }
     {
@@ -54,7 +54,7 @@ impl Patch {
         }
     }
 
-    /// The patch and then the changes, from the first on.
+    /// Returns the patch that does the same and then the changes, from the first on.
     pub(crate) fn with_all(self, changes: &[Change]) -> Patch
         ensures { result ≡ fold with_change self changes.now }
     {
@@ -65,7 +65,7 @@ impl Patch {
         patch
     }
 
-    /// The patch and then the change.
+    /// Returns the patch that does the same and then the change.
     fn with(self, change: Change) -> Patch
         ensures { result ≡ with_change self change }
     {

@@ -1,16 +1,23 @@
 //! Rules of each form, texts outside the grammar, and attributes that come from defaults and rules.
 use crate::{Sheet, StyleFault};
 use cell_grid::{Attrs, Colour};
+use sequences::Text;
 use std::alloc::Global;
 use std::test::Fail;
 
-/// The attributes of a class in the sheet of these rules, or why they were refused.
+/// Returns the sheet of these rules, or why they were refused.
+fn read(alloc: Global, rules: &str) -> Result<Sheet, StyleFault> {
+    let rules = Text::read_str(alloc, rules)?;
+    Sheet::from_rules(alloc, &rules)
+}
+
+/// Returns the attributes of a class in the sheet of these rules, or why they were refused.
 fn styled(alloc: Global, rules: &str, class: &str) -> Result<Attrs, StyleFault> {
-    let mut sheet = Sheet::from_rules(alloc, rules)?;
+    let mut sheet = read(alloc, rules)?;
     Ok(sheet.attrs_of(class))
 }
 
-/// Attributes with these colours and no other.
+/// Returns attributes with these colours and no other.
 fn coloured(fg: Option<Colour>, bg: Option<Colour>) -> Attrs {
     Attrs {
         fg,
@@ -19,7 +26,7 @@ fn coloured(fg: Option<Colour>, bg: Option<Colour>) -> Attrs {
     }
 }
 
-/// Attributes with a flag of this number on, from bold to strike.
+/// Returns attributes with a flag of this number on, from bold to strike.
 fn flagged(number: usize) -> Attrs {
     Attrs {
         bold: number == 0,
@@ -64,6 +71,9 @@ fn bad_style(rt: HostRuntime) {
         ("prompt=nofg:red", 0),
         ("prompt=bold=italic", 0),
         ("prompt=strikeé", 0),
+        ("prompt=bold;é=bold;;", 1),
+        ("prompt=bold\u{ff1b}selected=bold", 0),
+        ("prompt=bo\u{16c}d", 0),
         // colours
         ("prompt=fg:", 0),
         ("prompt=fg:#", 0),
@@ -80,7 +90,7 @@ fn bad_style(rt: HostRuntime) {
         ("prompt=underline;selected=bg:Red;prompt=x", 1),
     ];
     for (rules, at) in refused {
-        let found = Sheet::from_rules(rt.alloc(), rules).map(|_sheet| ());
+        let found = read(rt.alloc(), rules).map(|_sheet| ());
         assert_eq!(rt; found, Err(StyleFault::BadStyle { at }), "at {rules:?}");
     }
 }
@@ -243,4 +253,34 @@ fn cascade(rt: HostRuntime) {
             "at {class} in {rules}"
         );
     }
+}
+
+#[test]
+fn asks_again(rt: HostRuntime) -> Result<(), Fail> {
+    let mut sheet = read(rt.alloc(), "completion-menu=bold").expect(&rt, "a sheet");
+    let menu = Attrs {
+        bold: true,
+        ..coloured(Some(Colour::Ansi(0)), Some(Colour::Ansi(7)))
+    };
+    // more classes than are kept, and all of them again
+    for number in 0..140 {
+        let class = format!(in rt.alloc(); "completion-menu.{}", number % 70)?;
+        assert_eq!(rt; sheet.attrs_of(class.as_str()), menu, "at {class}");
+        assert_eq!(rt; sheet.attrs_of("selected"), flagged(4));
+    }
+    Ok(())
+}
+
+#[test]
+fn tells_faults(rt: HostRuntime) -> Result<(), Fail> {
+    let sentences = [
+        (StyleFault::BadStyle { at: 0 }, "rule 0 is no style rule"),
+        (StyleFault::BadStyle { at: 12 }, "rule 12 is no style rule"),
+        (StyleFault::NoMemory, "no memory for the style rules"),
+    ];
+    for (fault, sentence) in sentences {
+        let told = format!(in rt.alloc(); "{fault}")?;
+        assert_eq!(rt; told.as_str(), sentence);
+    }
+    Ok(())
 }

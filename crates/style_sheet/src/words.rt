@@ -1,4 +1,4 @@
-// The words of a rule.
+//! The words of a rule.
 ghost use Rattle.std.specs.Prelude.{◌≡◌, ◌≢◌, IfSome, IfNone};
 ghost use Rattle.style_sheet.specs.declared.changes.Flag.{Flag};
 ghost use Rattle.style_sheet.specs.declared.changes.Change.{Change};
@@ -18,7 +18,7 @@ const FLAGS: [Flag; 7] = [
     Flag::Strike,
 ];
 
-/// The change that has this word.
+/// Returns the change that has this word.
 pub(crate) fn find_change(word: &[u8]) -> Option<Change>
     ensures found { IfSome result (λ change. IsChange change × (change_word change ≡ word.now)) }
     ensures none { IfNone result ((change : Change) → IsChange change → change_word change ≢ word.now) }
