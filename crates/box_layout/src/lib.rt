@@ -30,4 +30,4 @@ pub use cell_grid::{Drawing, NoMemory};
 pub use listings::preferred;
 pub use nodes::{Float, FloatPlace, Floats, Node, Nodes, Pane};
 pub use paints::paint;
-pub use placed::{Placed, PlacedList};
+pub use placed::{Placed, PlacedList, set_scroll};

@@ -12,10 +12,10 @@ use crate::shown_rows::shown_row;
 use crate::{Pane, Placed, PlacedList, paint};
 use cell_grid::{Attrs, CellRow, CellRows, Fragment, NoMemory, Size, cells_of};
 use layout_dims::Dimension;
+use sequences::Text;
 use std::alloc::Global;
 use std::process::Abort;
 use std::test::Fail;
-use text_doc::Text;
 use win_view::{Content, Scroll};
 
 fn attrs_of(look: Look) -> Attrs {

@@ -5,10 +5,10 @@ use crate::place_shapes::{Case, Numbers, Shape, Spot, Window};
 use crate::{Float, FloatPlace, Floats, Node, Nodes, Pane, place};
 use cell_grid::{Attrs, CellRows, Fragment, Size, cells_of};
 use layout_dims::Dimension;
+use sequences::Text;
 use std::alloc::Global;
 use std::process::Abort;
 use std::test::Fail;
-use text_doc::Text;
 use win_view::{Content, Scroll};
 
 fn dimension(numbers: Numbers) -> Result<Dimension, Fail> {

@@ -3,7 +3,7 @@ use crate::place_shapes::Shape::{Columns, Over, Plain, Rows, There};
 use crate::place_shapes::Spot::Near;
 use crate::place_shapes::{FIVE, NONE, Numbers, ONE, REST, Shape, THREE, TWO, Window};
 use crate::place_tests::node_of;
-use crate::{place, preferred};
+use crate::{place, preferred, set_scroll};
 use cell_grid::Size;
 use std::test::Fail;
 use win_view::Scroll;
@@ -78,7 +78,7 @@ fn a_scroll_is_set_in_a_copy(rt: HostRuntime) -> Result<(), Fail> {
     let placed = place(rt.alloc(), &node, size, false)?.ok_or("a place")?;
     let mut copy = placed.copy()?;
     assert!(rt; copy.len() == 1);
-    copy.set_scroll(0, Scroll { down: 4, across: 5 });
+    set_scroll(&mut copy, 0, Scroll { down: 4, across: 5 });
     let scrolls = [(&placed, (0, 0)), (&copy, (4, 5))];
     for (list, scroll) in scrolls {
         let one = list.get(0).ok_or("a window")?;

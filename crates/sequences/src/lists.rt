@@ -1,5 +1,5 @@
 //! `Sequence`, a list of items of one kind. A clause sees it as the list of its items.
-ghost use Rattle.std.specs.Prelude.{◌≡◌, ◌<◌, ◌↔◌, [], ◌∷◌, ◌++◌, List, length, take, slice_get, option_copied, option_to_list, IsSome, IsTrue, IfOk, OnOk, OnErr};
+ghost use Rattle.std.specs.Prelude.{◌≡◌, ◌<◌, ◌↔◌, [], ◌∷◌, ◌++◌, List, length, take, slice_get, slice_set, option_copied, option_to_list, IsSome, IsTrue, IfOk, OnOk, OnErr};
 
 use crate::{Item, NoMemory, Queue};
 use std::alloc::Global;
@@ -87,6 +87,14 @@ impl<T: Drop> Sequence<T> {
     {
         self.items.push(item)?;
         Ok(())
+    }
+
+    /// Puts an item in the place `at` of the one that stands there, which is dropped.
+    pub fn set(&mut self, at: usize, item: T)
+        requires { at < length self.old }
+        ensures { self.new ≡ slice_set self.old at item }
+    {
+        self.items[at] = item;
     }
 
     /// Takes the last item out.
