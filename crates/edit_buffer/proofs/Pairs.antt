@@ -1,22 +1,15 @@
 -- How the lists of undo and redo change.
 use Rattle.std.proofs.Common.{◌≡◌, ℕ, ◌+◌, ◌≤◌, true, false, cond, List, [], ◌∷◌, length, take, drop, Some, sym, ap, ◌∙◌, refl, subst, arith, length-drop}
-use Rattle.std.proofs.Math.Numerals.{one-add}
 use Rattle.std.proofs.lemmas.List.{set-set, take_all}
 use Rattle.std.specs.Prelude.{slice_get}
 use Rattle.std.specs.List.{prefix_len}
 use Rattle.text_doc.specs.Document.{Document, IsDocument}
 use Rattle.circular_buffer.specs.Buffer.{Buffer, buffer}
-use Rattle.edit_buffer.specs.declared.undo.TheConstants.{MAX_PAIRS}
 use Rattle.edit_buffer.specs.declared.buffers.Buffer.TheInside.{Inside}
 use Rattle.edit_buffer.specs.BufferState.{Pair, IsBufferState, document_of, pair_of, with_document}
 use Rattle.edit_buffer.specs.Insides.{state_of, IsKept}
-use Rattle.edit_buffer.specs.Undo.{has_text, first_has_text, differing, with_present, undone, redone}
+use Rattle.edit_buffer.specs.Undo.{has_text, differing, with_present, undone, redone}
 use Rattle.edit_buffer.proofs.States.{IsBufferState-with_document}
-
--- a first pair with this text makes no difference
-pub differing-drop : (text : List ℕ) (pairs : List Pair) → first_has_text text pairs ≡ true → differing text (drop 1 pairs) ≡ differing text pairs
-differing-drop text [] h = cc
-differing-drop text (p ∷ rest) h = rw (h, one-add) refl
 
 pub length-differing : (text : List ℕ) (pairs : List Pair) → length (differing text pairs) ≤ length pairs
 length-differing text pairs = omega (arith, length-drop (prefix_len (has_text text) pairs) pairs)
@@ -40,17 +33,17 @@ module _ (b : Inside) (p : Pair) (d : Document) (u r : Buffer Pair) where
     pub document : IsDocument d
     pub undo : u.items ≡ undos
     pub redo : r.items ≡ redos
-    pub pairs : length undos + length redos ≤ MAX_PAIRS
-    pub undo_room : u.capacity ≡ MAX_PAIRS
-    pub redo_room : r.capacity ≡ MAX_PAIRS
+    pub pairs : length undos + length redos ≤ 1000
+    pub undo_room : u.capacity ≡ 1000
+    pub redo_room : r.capacity ≡ 1000
 
-  pub state_of-restored : (undos redos : List Pair) → IsRestored undos redos → state_of (record b { doc = d; undo = u; redo = r }) ≡ record (with_document (state_of b) (document_of p)) { undo = undos; redo = redos }
+  pub state_of-restored : (undos redos : List Pair) → IsRestored undos redos → state_of (record b { doc = d; undo = u; redo = r; is_kept = false }) ≡ record (with_document (state_of b) (document_of p)) { undo = undos; redo = redos }
   state_of-restored undos redos h =
       rw (h.undo, h.redo, h.doc)
       (ap (λ lines. record (state_of b) { doc = document_of p; lines = lines; undo = undos; redo = redos })
       (sym (set-set b.lines.items b.index b.doc.text p.text)))
 
-  pub IsKept-restored : (undos redos : List Pair) → IsRestored undos redos → IsKept (record b { doc = d; undo = u; redo = r })
+  pub IsKept-restored : (undos redos : List Pair) → IsRestored undos redos → IsKept (record b { doc = d; undo = u; redo = r; is_kept = false })
   IsKept-restored undos redos h =
       let document : IsDocument (document_of p) = rw (← h.doc) h.document in
       let state = IsBufferState-with_document (state_of b) (document_of p) h.kept.state document in
@@ -66,6 +59,7 @@ module _ (b : Inside) (p : Pair) (d : Document) (u r : Buffer Pair) where
         state = subst IsBufferState (sym (state_of-restored undos redos h)) after;
         undo_room = h.undo_room;
         redo_room = h.redo_room;
+        is_kept = λ e. cc;
       }
 
   -- what `undo` leaves in the fields
@@ -92,7 +86,7 @@ module _ (b : Inside) (p : Pair) (d : Document) (u r : Buffer Pair) where
       let kept = h.kept.state.pairs in
       let undo_room = h.kept.undo_room in
       let redo_room = h.kept.redo_room in
-      let pairs : length (drop 1 (differing b.doc.text b.undo.items)) + length (pair_of b.doc ∷ b.redo.items) ≤ MAX_PAIRS = omega (arith, length-differing b.doc.text b.undo.items, ap length found) in
+      let pairs : length (drop 1 (differing b.doc.text b.undo.items)) + length (pair_of b.doc ∷ b.redo.items) ≤ 1000 = omega (arith, length-differing b.doc.text b.undo.items, ap length found) in
       let enough : length (pair_of b.doc ∷ b.redo.items) ≤ b.redo.capacity = omega arith in
       record {
         kept = h.kept;
@@ -112,7 +106,7 @@ module _ (b : Inside) (p : Pair) (d : Document) (u r : Buffer Pair) where
       let undo_room = h.kept.undo_room in
       let redo_room = h.kept.redo_room in
       let present = length-with_present b.doc b.undo.items in
-      let pairs : length (with_present b.doc b.undo.items) + length (drop 1 b.redo.items) ≤ MAX_PAIRS = omega (arith, ap length found) in
+      let pairs : length (with_present b.doc b.undo.items) + length (drop 1 b.redo.items) ≤ 1000 = omega (arith, ap length found) in
       let enough : length (with_present b.doc b.undo.items) ≤ b.undo.capacity = omega arith in
       record {
         kept = h.kept;
@@ -125,9 +119,9 @@ module _ (b : Inside) (p : Pair) (d : Document) (u r : Buffer Pair) where
         redo_room = rw h.redo redo_room;
       }
 
-  pub state_of-undone : IsUndone → state_of (record b { doc = d; undo = u; redo = r }) ≡ undone (state_of b)
+  pub state_of-undone : IsUndone → state_of (record b { doc = d; undo = u; redo = r; is_kept = false }) ≡ undone (state_of b)
   state_of-undone h =
       state_of-restored _ _ (restored_by_undo h) ∙ sym (rw (split_first (differing b.doc.text b.undo.items) p h.found) refl)
 
-  pub state_of-redone : IsRedone → state_of (record b { doc = d; undo = u; redo = r }) ≡ redone (state_of b)
+  pub state_of-redone : IsRedone → state_of (record b { doc = d; undo = u; redo = r; is_kept = false }) ≡ redone (state_of b)
   state_of-redone h = state_of-restored _ _ (restored_by_redo h) ∙ sym (rw (split_first b.redo.items p h.found) refl)

@@ -6,7 +6,6 @@ use Rattle.std.proofs.lemmas.List.Edits.{swap_is}
 use Rattle.std.proofs.lemmas.List.Elements.{All-get_or, All-set, All-append, All-cons, All-nil, All-drop}
 use Rattle.std.specs.List.{All, swap}
 use Rattle.text_doc.specs.Document.{Document, IsDocument}
-use Rattle.text_doc.specs.declared.documents.TheConstants.{MAX_LENGTH}
 use Rattle.edit_buffer.specs.declared.menus.Menu.{Menu}
 use Rattle.edit_buffer.specs.declared.buffers.Buffer.TheInside.{Inside}
 use Rattle.edit_buffer.specs.BufferState.{BufferState, IsBufferState, line_of, with_document}
@@ -24,7 +23,7 @@ IsBufferState-with_document b d kept document = record {
   document = document;
   index = rw length-set kept.index;
   present = let within = kept.index in get_or-set_same b.lines b.index d.text [] within;
-  short = All-set (λ line. length line ≤ MAX_LENGTH) b.lines b.index d.text document.short kept.short;
+  short = All-set (λ line. length line ≤ 32768) b.lines b.index d.text document.short kept.short;
   pairs = kept.pairs;
   menu = kept.menu;
 }
@@ -57,31 +56,31 @@ state_of-opened b history text fields =
     rw (fields.doc, fields.lines, fields.index, fields.undo, fields.redo, fields.menu)
     (ap (λ lines. record (opened history text) { lines = lines }) (set_at (newest history) [] [] text (length (newest history)) refl))
 
-pub IsBufferState-opened : (history : List (List ℕ)) (text : List ℕ) → All (λ line. length line ≤ MAX_LENGTH) history → length text ≤ MAX_LENGTH → IsBufferState (opened history text)
+pub IsBufferState-opened : (history : List (List ℕ)) (text : List ℕ) → All (λ line. length line ≤ 32768) history → length text ≤ 32768 → IsBufferState (opened history text)
 IsBufferState-opened history text entries short = record {
   document = record { short = short; cursor_within = omega arith; mark_within = λ m e. cc };
   index = omega (arith, length-append (newest history) (text ∷ []));
   present = get_or-append_seam (newest history) text [] [];
-  short = All-append (λ line. length line ≤ MAX_LENGTH) (newest history) (text ∷ [])
-      (All-drop (λ line. length line ≤ MAX_LENGTH) _ history entries)
-      (All-cons (λ line. length line ≤ MAX_LENGTH) text [] short (All-nil (λ line. length line ≤ MAX_LENGTH)));
+  short = All-append (λ line. length line ≤ 32768) (newest history) (text ∷ [])
+      (All-drop (λ line. length line ≤ 32768) _ history entries)
+      (All-cons (λ line. length line ≤ 32768) text [] short (All-nil (λ line. length line ≤ 32768)));
   pairs = omega arith;
   menu = λ m e. cc;
 }
 
--- the text that is left goes to its place, and the line that is reached is that of the document
+-- the text that is left is put in the place of the line that is reached, and then the two change places
 lines_exchanged : (lines : List (List ℕ)) (from to : ℕ) (left : List ℕ) → from < length lines → to < length lines → (from ≡ to → ⊥)
     → slice_set (swap (slice_set lines to left) from to) to (get_or lines to []) ≡ slice_set lines from left
 lines_exchanged lines from to left from_within to_within other =
     let there : List ℕ = get_or lines to [] in
-    let given : List (List ℕ) = slice_set lines to left in
-    ap (λ xs. slice_set xs to there) (sym (swap_is given from to [] (rw length-set from_within) (rw length-set to_within)))
-    ∙ set-set (slice_set given from (get_or given to [])) to (get_or given from []) there
-    ∙ ap (λ y. slice_set (slice_set given from y) to there) (get_or-set_same lines to left [] to_within)
-    ∙ ap (λ xs. slice_set xs to there) (set_comm lines to from left left (λ e. other (sym e)))
-    ∙ set-set (slice_set lines from left) to left there
-    ∙ ap (slice_set (slice_set lines from left) to) (sym (get_or-set_other lines from to left [] (λ e. other (sym e))))
-    ∙ set-get_or (slice_set lines from left) to []
+    let xs : List (List ℕ) = slice_set lines to left in
+    let from_in : from < length xs = rw length-set from_within in
+    let to_in : to < length xs = rw length-set to_within in
+    ap (λ zs. slice_set zs to there) (sym (swap_is xs from to [] from_in to_in))
+    ∙ set-set (slice_set xs from (get_or xs to [])) to (get_or xs from []) there
+    ∙ ap (λ text. slice_set (slice_set xs from text) to there) (get_or-set_same lines to left [] to_within)
+    ∙ set_comm xs from to left there other
+    ∙ ap (λ zs. slice_set zs from left) (set-set lines to left there ∙ set-get_or lines to [])
 
 -- going to another line
 pub state_of-moved : (b : Inside) (line at : ℕ) → b.index < length b.lines.items → line < length b.lines.items → (b.index ≡ line → ⊥) → (d : Document)
@@ -95,7 +94,7 @@ state_of-moved b line at index within other d document lines exchanged =
 -- a line of a buffer is short enough for a document
 pub IsBufferState-moved_to : (b : BufferState) (line at : ℕ) → IsBufferState b → line < length b.lines → at ≤ length (line_of b line) → IsBufferState (moved_to b line at)
 IsBufferState-moved_to b line at kept within place = record {
-  document = record { short = All-get_or (λ text. length text ≤ MAX_LENGTH) b.lines line [] within kept.short; cursor_within = place; mark_within = λ m e. cc };
+  document = record { short = All-get_or (λ text. length text ≤ 32768) b.lines line [] within kept.short; cursor_within = place; mark_within = λ m e. cc };
   index = within;
   present = refl;
   short = kept.short;

@@ -4,10 +4,7 @@ use Rattle.std.specs.List.{All}
 use Rattle.std.specs.Option.{ForSome}
 use Rattle.text_doc.specs.Document.{Document, IsDocument}
 use Rattle.text_doc.specs.declared.completions.Completion.{Completion}
-use Rattle.text_doc.specs.declared.documents.TheConstants.{MAX_LENGTH}
 use Rattle.edit_buffer.specs.declared.menus.Menu.{Menu}
-use Rattle.edit_buffer.specs.declared.menus.TheConstants.{MAX_ITEMS}
-use Rattle.edit_buffer.specs.declared.undo.TheConstants.{MAX_PAIRS}
 
 -- a text and a cursor
 pub record Pair : Type 0 where
@@ -45,7 +42,7 @@ ReachWithin cursor items = All (λ item. item.back ≤ cursor) items
 -- a menu holds few enough items, and its choice is one of them
 pub record IsMenu (m : Menu) : Type 0 where
   pub original : IsDocument m.original
-  pub few : length m.items ≤ MAX_ITEMS
+  pub few : length m.items ≤ 10000
   pub reach : ReachWithin m.original.cursor m.items
   pub chosen : ForSome m.chosen (λ i. i < length m.items)
 
@@ -54,6 +51,6 @@ pub record IsBufferState (b : BufferState) : Type 0 where
   pub document : IsDocument b.doc
   pub index : b.index < length b.lines
   pub present : line_of b b.index ≡ b.doc.text
-  pub short : All (λ line. length line ≤ MAX_LENGTH) b.lines
-  pub pairs : length b.undo + length b.redo ≤ MAX_PAIRS
+  pub short : All (λ line. length line ≤ 32768) b.lines
+  pub pairs : length b.undo + length b.redo ≤ 1000
   pub menu : ForSome b.menu IsMenu

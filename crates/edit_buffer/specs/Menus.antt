@@ -3,15 +3,13 @@ use Rattle.std.specs.Prelude.{ℕ, ◌+◌, ◌-◌, ◌<◌, List, [], ◌∷�
 use Rattle.std.specs.Option.{ForSome}
 use Rattle.text_doc.specs.Document.{Document}
 use Rattle.text_doc.specs.declared.completions.Completion.{Completion}
-use Rattle.text_doc.specs.declared.documents.TheConstants.{MAX_LENGTH}
 use Rattle.edit_buffer.specs.declared.menus.Menu.{Menu}
-use Rattle.edit_buffer.specs.declared.menus.TheConstants.{MAX_ITEMS}
 use Rattle.edit_buffer.specs.BufferState.{BufferState, with_document, ReachWithin}
 
 -- the menu of these items for a document: none without items, and nothing is chosen yet
 abbrev pub menu_of : Document → List Completion → Option Menu
 menu_of d [] = None
-menu_of d (item ∷ items) = Some (record { original = d; items = take MAX_ITEMS (item ∷ items); chosen = None })
+menu_of d (item ∷ items) = Some (record { original = d; items = take 10000 (item ∷ items); chosen = None })
 
 -- the document with the text of an item in place of what it completes, without a mark; without an item only the mark goes
 abbrev pub completed : Document → Option Completion → Document
@@ -34,7 +32,7 @@ CanChoose (Some m) which = ForSome which (λ i. i < length m.items)
 -- the document of this choice would be too long
 abbrev pub IsTooLongChoice : Option Menu → Option ℕ → Type 0
 IsTooLongChoice None which = ⊥
-IsTooLongChoice (Some m) which = MAX_LENGTH < length (choice m which).text
+IsTooLongChoice (Some m) which = 32768 < length (choice m which).text
 
 -- the buffer after a choice in this menu
 abbrev pub chosen_in : Option Menu → BufferState → Option ℕ → BufferState
@@ -46,9 +44,9 @@ abbrev pub CanAdd : Option Menu → List Completion → Type 0
 CanAdd None more = ⊥
 CanAdd (Some m) more = ReachWithin m.original.cursor more
 
--- the menu with the first `MAX_ITEMS` of its items and further ones
+-- the menu with the first 10,000 of its items and further ones
 abbrev pub with_items : Menu → List Completion → Menu
-with_items m more = record m { items = take MAX_ITEMS (m.items ++ more) }
+with_items m more = record m { items = take 10000 (m.items ++ more) }
 
 -- the buffer with further items in this menu
 abbrev pub with_items_in : Option Menu → BufferState → List Completion → BufferState

@@ -1,12 +1,11 @@
 -- The working lines of a new buffer, and going from one working line to another.
 use Rattle.std.specs.Prelude.{ℕ, ◌+◌, ◌-◌, min, Bool, ◌&&◌, List, [], ◌∷◌, ◌++◌, length, drop, None, nat_lt, if◌then◌else◌}
 use Rattle.text_doc.specs.Rows.{line_end}
-use Rattle.edit_buffer.specs.declared.buffers.TheConstants.{MAX_ENTRIES}
 use Rattle.edit_buffer.specs.BufferState.{BufferState, line_of}
 
--- the last `MAX_ENTRIES` entries
+-- the last 1,000 entries
 abbrev pub newest : List (List ℕ) → List (List ℕ)
-newest history = drop (length history - MAX_ENTRIES) history
+newest history = drop (length history - 1000) history
 
 -- the buffer on a new line of this text behind the newest entries, with its cursor at the end
 abbrev pub opened : List (List ℕ) → List ℕ → BufferState

@@ -1,11 +1,10 @@
 -- What a contract sees of a ring: the list of its clips, the newest first.
 use Rattle.std.specs.Prelude.{List, ◌∷◌, ◌++◌, take, drop}
 use Rattle.edit_buffer.specs.declared.rings.Clip.{Clip}
-use Rattle.edit_buffer.specs.declared.rings.TheConstants.{MAX_CLIPS}
 
--- the first `MAX_CLIPS` of the new clip and the clips before it
+-- the first 60 of the new clip and the clips before it
 abbrev pub with_clip : List Clip → Clip → List Clip
-with_clip clips clip = take MAX_CLIPS (clip ∷ clips)
+with_clip clips clip = take 60 (clip ∷ clips)
 
 -- the clips with the first one at the end
 abbrev pub rotated : List Clip → List Clip

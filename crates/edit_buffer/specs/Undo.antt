@@ -4,7 +4,6 @@ use Rattle.std.specs.List.{prefix_len}
 use Rattle.std.specs.Str.{bytes_eq}
 use Rattle.text_doc.specs.Document.{Document}
 use Rattle.edit_buffer.specs.BufferState.{BufferState, Pair, pair_of, document_of, with_document}
-use Rattle.edit_buffer.specs.declared.undo.TheConstants.{MAX_PAIRS}
 
 -- whether a pair has this text
 abbrev pub has_text : List ℕ → Pair → Bool
@@ -30,7 +29,7 @@ with_present d pairs = if first_has_text d.text pairs then with_cursor d.cursor 
 
 -- the present pair is kept for undo, the oldest one goes where there are too many, and nothing is left to redo
 abbrev pub saved : BufferState → BufferState
-saved b = record b { undo = take MAX_PAIRS (with_present b.doc b.undo); redo = [] }
+saved b = record b { undo = take 1000 (with_present b.doc b.undo); redo = [] }
 
 -- the first of these pairs is restored, the others are left for undo, and the present pair is put first for redo
 abbrev pub undone_to : BufferState → List Pair → BufferState

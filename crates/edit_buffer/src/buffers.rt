@@ -1,8 +1,8 @@
 //! A buffer: a document in one of several working lines. A clause sees it as a `BufferState`.
-ghost use Rattle.std.specs.Prelude.{◌≡◌, ◌≢◌, ◌<◌, ◌≤◌, ◌↔◌, length, option_copied, IfOk, OnOk, OnErr};
+ghost use Rattle.std.specs.Prelude.{◌≡◌, ◌≢◌, ◌<◌, ◌≤◌, ◌↔◌, ◌++◌, length, option_copied, IsOk, IfOk, IsTrue, OnOk, OnErr};
 ghost use Rattle.std.specs.List.{All};
 ghost use Rattle.edit_buffer.specs.BufferState.{IsBufferState, line_of};
-ghost use Rattle.edit_buffer.specs.Edits.{applied, FitsDocument, MakesTooLong};
+ghost use Rattle.edit_buffer.specs.Edits.{applied, is_same, FitsDocument, MakesTooLong, TakesNoMemory, TellsChanges};
 ghost use Rattle.edit_buffer.specs.Moves.{newest, opened};
 
 use crate::edits::edit_doc;
@@ -10,7 +10,7 @@ use crate::undo::Snapshots;
 use crate::{Applied, Edit, EditFault, MAX_PAIRS, Menu};
 use std::alloc::Global;
 use std::marker::Model;
-use text_doc::{Doc, Lines, MAX_LENGTH, NoMemory, Text};
+use text_doc::{Doc, Lines, NoMemory, Text};
 
 /// The most entries of the history that become working lines.
 pub const MAX_ENTRIES: usize = 1_000;
@@ -24,6 +24,8 @@ pub struct Buffer {
     pub(crate) index: usize,
     pub(crate) undo: Snapshots,
     pub(crate) redo: Snapshots,
+    /// Whether the first pair of `undo` is known to have the document's text.
+    pub(crate) is_kept: bool,
     pub(crate) menu: Option<Menu>,
 }
 
@@ -43,8 +45,8 @@ impl Buffer {
     /// Returns a buffer on a new line of this text, with its cursor at the end. The newest entries of the history,
     /// which has the oldest one first, are the working lines before the new one.
     pub fn new(alloc: Global, history: Lines, first: Text) -> Result<Buffer, NoMemory>
-        requires entries { All (λ line. length line ≤ MAX_LENGTH) history }
-        requires first { length first ≤ MAX_LENGTH }
+        requires entries { All (λ line. length line ≤ 32768) history }
+        requires first { length first ≤ 32768 }
         ensures { IfOk result (λ buffer. buffer ≡ opened history first) }
     {
         let mut lines = history.into_vec();
@@ -61,6 +63,7 @@ impl Buffer {
             index,
             undo,
             redo,
+            is_kept: false,
             menu: None,
         })
     }
@@ -98,6 +101,19 @@ impl Buffer {
         &self.lines[i]
     }
 
+    /// Returns the text of any working line, the present one included, as two slices of which the second follows on the
+    /// first. Where it is cut is not said.
+    pub fn line_parts(&self, i: usize) -> (&[char], &[char])
+        requires { i < length self.now.lines }
+        ensures { result.0.now ++ result.1.now ≡ line_of self.now i }
+    {
+        if i == self.index {
+            self.doc.parts()
+        } else {
+            self.lines[i].as_slice().split_at(0)
+        }
+    }
+
     /// Returns the menu.
     pub fn menu(&self) -> Option<&Menu>
         ensures menu { option_copied result ≡ self.now.menu }
@@ -112,11 +128,13 @@ impl Buffer {
         ensures ok { OnOk result (self.new ≡ applied self.old edit) }
         ensures err { OnErr result (self.new ≡ self.old) }
 
-        // Nothing changed exactly where text, cursor and mark are as before.
-        ensures same { IfOk result (λ answer. (answer ≡ Applied.Same) ↔ (self.new.doc ≡ self.old.doc)) }
+        ensures changes { IfOk result (λ answer. TellsChanges answer self.old.doc self.new.doc) }
+        ensures same { IfOk result (λ answer. IsTrue (is_same answer) ↔ (self.new.doc ≡ self.old.doc)) }
         ensures too_long { (result ≡ Err EditFault.TooLong) ↔ MakesTooLong edit self.old.doc }
+        ensures sure { TakesNoMemory edit → IsOk result }
     {
         let answer = edit_doc(&mut self.doc, edit)?;
+        self.is_kept = self.is_kept && !answer.text;
         Ok(answer)
     }
 }

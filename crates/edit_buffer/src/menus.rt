@@ -1,11 +1,11 @@
 //! The menu of completions.
-ghost use Rattle.std.specs.Prelude.{◌≡◌, ◌≢◌, ◌<◌, ◌≤◌, ◌+◌, ◌-◌, ◌↔◌, ◌++◌, take, length, IsTrue, IfOk, OnOk, OnErr};
+ghost use Rattle.std.specs.Prelude.{◌≡◌, ◌≢◌, ◌<◌, ◌≤◌, ◌+◌, ◌-◌, ◌↔◌, ◌++◌, [], take, length, IsOk, IsTrue, IfOk, OnOk, OnErr};
 ghost use Rattle.text_doc.specs.Document.{IsDocument};
 ghost use Rattle.edit_buffer.specs.BufferState.{IsMenu, ReachWithin};
 ghost use Rattle.edit_buffer.specs.Menus.{completed, choice, CanChoose, CanAdd, IsTooLongChoice, chosen_in, with_items, with_items_in, cancelled_in, menu_of};
 
+use crate::replacements::replace_range;
 use crate::{Buffer, EditFault};
-use std::alloc::Global;
 use std::mem;
 use text_doc::{Completion, Completions, Doc, MAX_LENGTH, NoMemory};
 
@@ -29,6 +29,7 @@ impl Buffer {
         ensures answer { IfOk result (λ shown. IsTrue shown ↔ (0 < length items)) }
         ensures ok { OnOk result (self.new ≡ record self.old { menu = menu_of self.old.doc items }) }
         ensures err { OnErr result (self.new ≡ self.old) }
+        ensures sure { items ≡ [] → IsOk result }
     {
         if items.is_empty() {
             self.menu = None;
@@ -68,6 +69,7 @@ impl Buffer {
             let doc = chosen_doc(menu, which)?;
             menu.chosen = which;
             self.doc = doc;
+            self.is_kept = false;
         }
         Ok(())
     }
@@ -80,6 +82,7 @@ impl Buffer {
             let Menu { original, .. } = menu;
             self.doc = original;
             self.doc.set_mark(None);
+            self.is_kept = false;
         }
     }
 
@@ -93,63 +96,41 @@ impl Buffer {
 
 fn chosen_doc(menu: &Menu, which: Option<usize>) -> Result<Doc, EditFault>
     requires within { CanChoose (Some menu.now) which }
-    requires reach { ReachWithin menu.now.original.cursor menu.now.items }
+    requires menu { IsMenu menu.now }
     ensures ok { IfOk result (λ doc. doc ≡ choice menu.now which) }
+    ensures document { IfOk result IsDocument }
     ensures too_long { (result ≡ Err EditFault.TooLong) ↔ IsTooLongChoice (Some menu.now) which }
 {
     match which {
-        Some(i) => complete(
-            menu.items.allocator(),
-            &menu.original,
-            &menu.items.as_slice()[i],
-        ),
+        Some(i) => complete(&menu.original, &menu.items.as_slice()[i]),
         None => copy_without_mark(&menu.original),
     }
 }
 
 fn copy_without_mark(original: &Doc) -> Result<Doc, EditFault>
     ensures ok { IfOk result (λ doc. doc ≡ record original.now { mark = None }) }
-    ensures document { IsDocument original.now }
+    ensures document { IfOk result IsDocument }
     ensures fits { result ≢ Err EditFault.TooLong }
 {
-    let _length = original.len();
-    match original.copy() {
-        Ok(mut doc) => {
-            doc.set_mark(None);
-            Ok(doc)
-        }
-        Err(_) => Err(EditFault::NoMemory),
-    }
+    let mut doc = original.copy()?;
+    doc.set_mark(None);
+    Ok(doc)
 }
 
 /// Returns the document with the item's text in place of what it completes, and without a mark.
-fn complete(alloc: Global, original: &Doc, item: &Completion) -> Result<Doc, EditFault>
+fn complete(original: &Doc, item: &Completion) -> Result<Doc, EditFault>
     requires { item.now.back ≤ original.now.cursor }
     ensures ok { IfOk result (λ doc. doc ≡ completed original.now (Some item.now)) }
-    ensures too_long { (result ≡ Err EditFault.TooLong) ↔ (MAX_LENGTH < length (completed original.now (Some item.now)).text) }
+    ensures document { IfOk result IsDocument }
+    ensures too_long { (result ≡ Err EditFault.TooLong) ↔ (32768 < length (completed original.now (Some item.now)).text) }
 {
+    let to = original.cursor();
     let kept = original.len() - item.back;
     if item.text.len() > MAX_LENGTH - kept {
         return Err(EditFault::TooLong);
     }
-    match complete_short(alloc, original, item) {
-        Ok(doc) => Ok(doc),
-        Err(_) => Err(EditFault::NoMemory),
-    }
-}
-
-fn complete_short(alloc: Global, original: &Doc, item: &Completion) -> Result<Doc, NoMemory>
-    requires back { item.now.back ≤ original.now.cursor }
-    requires short { length original.now.text - item.now.back + length item.now.text ≤ MAX_LENGTH }
-    ensures { IfOk result (λ doc. doc ≡ completed original.now (Some item.now)) }
-{
-    let from = original.cursor() - item.back;
-    let mut text = original.part(0, from)?;
-    text.extend_from_slice(item.text.as_slice())?;
-    let cursor = text.len();
-    let behind = original.part(original.cursor(), original.len())?;
-    text.extend_from_slice(behind.as_slice())?;
-    let doc = Doc::new(alloc, text, cursor)?;
+    let mut doc = copy_without_mark(original)?;
+    replace_range(&mut doc, to - item.back, to, item.text.as_slice())?;
     Ok(doc)
 }
 
@@ -166,8 +147,8 @@ fn add_to_menu(menu: &mut Menu, more: Completions) -> Result<(), NoMemory>
 
 /// Puts further items behind those of a list, as many as a menu can hold.
 fn append_items(items: &mut Completions, more: Completions) -> Result<(), NoMemory>
-    requires { length items.old ≤ MAX_ITEMS }
-    ensures ok { OnOk result (items.new ≡ take MAX_ITEMS (items.old ++ more)) }
+    requires { length items.old ≤ 10000 }
+    ensures ok { OnOk result (items.new ≡ take 10000 (items.old ++ more)) }
     ensures err { OnErr result (items.new ≡ items.old) }
 {
     let room = MAX_ITEMS - items.len();

@@ -2,7 +2,7 @@
 ghost use Rattle.std.specs.Prelude.{◌≡◌, ◌≤◌, length, IfOk, IsSomeAnd};
 ghost use Rattle.edit_buffer.specs.BufferState.{ReachWithin};
 
-use crate::{Applied, Buffer, Clip, Edit, EditFault, Ring};
+use crate::{Buffer, Clip, Edit, EditFault, Ring};
 use std::alloc::Global;
 use std::process::Abort;
 use std::test::Fail;
@@ -16,7 +16,8 @@ fn empty_buffer(alloc: Global) -> Result<Buffer, NoMemory> {
 
 fn insert(rt: &impl Abort, alloc: Global, buffer: &mut Buffer, chars: &[char]) -> Result<(), Fail> {
     let text = Text::from_chars(alloc, chars)?;
-    assert_eq!(rt; buffer.apply(Edit::Insert(text))?, Applied::Changed);
+    let answer = buffer.apply(Edit::Insert(text))?;
+    assert!(rt; answer.text && !answer.mark);
     Ok(())
 }
 
@@ -84,6 +85,19 @@ fn buffer_with_history(rt: &impl Abort, alloc: Global) -> Result<Buffer, Fail> {
     Ok(buffer)
 }
 
+fn assert_joined(
+    rt: &impl Abort,
+    alloc: Global,
+    front: &[char],
+    back: &[char],
+    chars: &[char],
+) -> Result<(), Fail> {
+    let mut text = Text::from_chars(alloc, front)?;
+    text.extend_from_slice(back)?;
+    assert!(rt; text.equals(chars));
+    Ok(())
+}
+
 #[test]
 fn working_lines(rt: HostRuntime) -> Result<(), Fail> {
     let mut buffer = buffer_with_history(&rt, rt.alloc())?;
@@ -95,8 +109,161 @@ fn working_lines(rt: HostRuntime) -> Result<(), Fail> {
     assert_doc(&rt, &buffer, &[], 0);
     assert!(rt; buffer.lines() == 2 && buffer.index() == 1);
     assert!(rt; buffer.line(0).equals(&['a', 'b', '\n', 'c', '!']));
+    let (front, back) = buffer.line_parts(0);
+    assert_joined(&rt, rt.alloc(), front, back, &['a', 'b', '\n', 'c', '!'])?;
+    let (front, back) = buffer.line_parts(1);
+    assert_joined(&rt, rt.alloc(), front, back, &[])?;
     buffer.goto(0, 0)?;
     assert_doc(&rt, &buffer, &['a', 'b', '\n', 'c', '!'], 0);
+    Ok(())
+}
+
+/// A range of "hello" and what takes its place, at a cursor and a mark, and what comes of it.
+struct Replacement {
+    cursor: usize,
+    mark: usize,
+    from: usize,
+    to: usize,
+    new: &'static str,
+    text: &'static str,
+    cursor_then: usize,
+    mark_then: usize,
+    changes: [bool; 3],
+}
+
+const REPLACEMENTS: [Replacement; 6] = [
+    // as many others: the mark keeps its number
+    Replacement {
+        cursor: 2,
+        mark: 2,
+        from: 1,
+        to: 3,
+        new: "EL",
+        text: "hELlo",
+        cursor_then: 3,
+        mark_then: 2,
+        changes: [true, true, false],
+    },
+    // the same ones
+    Replacement {
+        cursor: 3,
+        mark: 2,
+        from: 1,
+        to: 3,
+        new: "el",
+        text: "hello",
+        cursor_then: 3,
+        mark_then: 2,
+        changes: [false, false, false],
+    },
+    // more, with cursor and mark behind
+    Replacement {
+        cursor: 5,
+        mark: 4,
+        from: 1,
+        to: 3,
+        new: "abc",
+        text: "habclo",
+        cursor_then: 6,
+        mark_then: 5,
+        changes: [true, true, true],
+    },
+    // fewer, with the cursor before and the mark inside
+    Replacement {
+        cursor: 0,
+        mark: 2,
+        from: 1,
+        to: 3,
+        new: "x",
+        text: "hxlo",
+        cursor_then: 0,
+        mark_then: 1,
+        changes: [true, false, true],
+    },
+    // some in place of none, with cursor and mark there
+    Replacement {
+        cursor: 2,
+        mark: 2,
+        from: 2,
+        to: 2,
+        new: "--",
+        text: "he--llo",
+        cursor_then: 4,
+        mark_then: 2,
+        changes: [true, true, false],
+    },
+    // none in place of all
+    Replacement {
+        cursor: 1,
+        mark: 5,
+        from: 0,
+        to: 5,
+        new: "",
+        text: "",
+        cursor_then: 0,
+        mark_then: 0,
+        changes: [true, true, true],
+    },
+];
+
+#[test]
+fn replacements(rt: HostRuntime) -> Result<(), Fail> {
+    for case in &REPLACEMENTS {
+        let hello = Text::read_str(rt.alloc(), "hello")?;
+        assert!(rt; hello.len() <= MAX_LENGTH);
+        let mut buffer = Buffer::new(rt.alloc(), Lines::new(rt.alloc()), hello)?;
+        assert!(rt; case.cursor <= buffer.doc().len());
+        assert!(rt; buffer.apply(Edit::Cursor(case.cursor))?.cursor != (case.cursor == 5));
+        assert!(rt; case.mark <= buffer.doc().len());
+        assert!(rt; buffer.apply(Edit::Mark(Some(case.mark)))?.mark);
+        assert!(rt; case.from <= case.to && case.to <= buffer.doc().len());
+        let new = Text::read_str(rt.alloc(), case.new)?;
+        let answer = buffer.apply(Edit::Replace {
+            from: case.from,
+            to: case.to,
+            text: new,
+        })?;
+        assert_eq!(rt;
+            [answer.text, answer.cursor, answer.mark],
+            case.changes,
+            "{}",
+            case.text
+        );
+        let text = Text::read_str(rt.alloc(), case.text)?;
+        assert!(rt; buffer.doc().has_text(text.as_slice()), "{}", case.text);
+        assert_eq!(rt; buffer.doc().cursor(), case.cursor_then, "{}", case.text);
+        assert_eq!(rt; buffer.doc().mark(), Some(case.mark_then), "{}", case.text);
+    }
+    Ok(())
+}
+
+fn replace_last(alloc: Global, buffer: &mut Buffer, new: &[char]) -> Result<(), EditFault> {
+    let text = Text::from_chars(alloc, new)?;
+    let len = buffer.doc().len();
+    buffer.apply(Edit::Replace {
+        from: len.saturating_sub(1),
+        to: len,
+        text,
+    })?;
+    Ok(())
+}
+
+fn assert_full_to_y(rt: &impl Abort, buffer: &Buffer) {
+    assert_eq!(rt; buffer.doc().len(), MAX_LENGTH);
+    assert_eq!(rt; buffer.doc().char_at(32_766), 'x');
+    assert_eq!(rt; buffer.doc().char_at(32_767), 'y');
+}
+
+#[test]
+fn replacement_at_the_limit(rt: HostRuntime) -> Result<(), Fail> {
+    let full = Text::from_vec(vec![in rt.alloc(); 'x'; MAX_LENGTH]?);
+    assert!(rt; full.len() <= MAX_LENGTH);
+    let mut buffer = Buffer::new(rt.alloc(), Lines::new(rt.alloc()), full)?;
+    replace_last(rt.alloc(), &mut buffer, &['y'])?;
+    assert_full_to_y(&rt, &buffer);
+    let refused = replace_last(rt.alloc(), &mut buffer, &['z', 'z']);
+    assert!(rt; matches!(refused, Err(EditFault::TooLong)));
+    assert_full_to_y(&rt, &buffer);
     Ok(())
 }
 
@@ -108,6 +275,14 @@ fn too_long(rt: HostRuntime) -> Result<(), Fail> {
     let refused = buffer.apply(Edit::Insert(Text::from_vec(long)));
     assert!(rt; matches!(refused, Err(EditFault::TooLong)));
     assert_doc(&rt, &buffer, &['x'], 1);
+    assert_eq!(rt;
+        EditFault::TooLong.to_string(rt.alloc())?.as_str(),
+        "more than 32768 characters"
+    );
+    assert_eq!(rt;
+        EditFault::NoMemory.to_string(rt.alloc())?.as_str(),
+        "no memory for the text"
+    );
     Ok(())
 }
 

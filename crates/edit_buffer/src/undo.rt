@@ -1,111 +1,74 @@
 //! The lists of undo and redo, which all working lines share.
-ghost use Rattle.std.specs.Prelude.{◌≡◌, ◌<◌, ◌≤◌, ◌↔◌, [], length, take, drop, slice_get, IsTrue, IfOk, OnOk, OnErr};
-ghost use Rattle.std.specs.Bool.{OnTrue};
+ghost use Rattle.std.specs.Prelude.{◌≡◌, ◌<◌, ◌↔◌, [], length, take, drop, slice_get, option_copied, IsOk, IsTrue, IfOk, OnOk, OnErr};
+ghost use Rattle.std.specs.List.{prefix_len};
 ghost use Rattle.circular_buffer.specs.Buffer.{buffer};
-ghost use Rattle.text_doc.specs.Document.{IsDocument};
-ghost use Rattle.edit_buffer.specs.BufferState.{pair_of, document_of};
 ghost use Rattle.edit_buffer.specs.Undo.{has_text, first_has_text, differing, with_cursor, with_present, saved, undone, redone};
 
 use crate::Buffer;
+use crate::snapshots::Snapshot;
 use circular_buffer::HeapCircularBuffer;
-use std::marker::Model;
-use std::mem;
 use text_doc::{Doc, NoMemory};
 
 /// The most pairs that the lists of undo and redo hold together.
 pub const MAX_PAIRS: usize = 1_000;
-
-/// A text and a cursor. A clause sees it as a `Pair`.
-#[derive(Debug, Drop)]
-pub struct Snapshot {
-    doc: Doc,
-}
-
-impl Model for Snapshot {
-    ghost use Rattle.edit_buffer.specs.BufferState.{Pair, pair_of};
-
-    ghost Value = { Pair };
-
-    ghost view = { λ s. pair_of s.doc };
-}
-
-impl Snapshot {
-    /// Returns text and cursor of a document.
-    pub fn of(doc: Doc) -> Snapshot
-        ensures { result ≡ pair_of doc }
-    {
-        Snapshot { doc }
-    }
-
-    /// Returns the document with this text and cursor and without a mark.
-    pub fn into_doc(self) -> Doc
-        ensures value { result ≡ document_of self }
-        ensures document { IsDocument result }
-    {
-        let Snapshot { mut doc } = self;
-        doc.set_mark(None);
-        doc
-    }
-
-    /// Returns whether the text is that of the document.
-    pub fn has_text_of(&self, doc: &Doc) -> bool
-        ensures value { result ≡ has_text doc.now.text self.now }
-        ensures equal { OnTrue result (self.now.text ≡ doc.now.text) }
-    {
-        self.doc.is_same_text(doc)
-    }
-
-    /// Moves the cursor.
-    pub fn set_cursor(&mut self, at: usize)
-        requires { at ≤ length self.old.text }
-        ensures { self.new ≡ record self.old { cursor = at } }
-    {
-        self.doc.set_cursor(at);
-    }
-}
 
 /// A list of pairs, the newest first.
 pub(crate) type Snapshots = HeapCircularBuffer<Snapshot>;
 
 impl Buffer {
     /// Keeps text and cursor for undo, and forgets what could be redone. The text is copied only where the pair that was
-    /// kept last has another one.
+    /// kept last has another one; from one save on, until the text is edited, it is not even compared.
     pub fn save(&mut self) -> Result<(), NoMemory>
         ensures ok { OnOk result (self.new ≡ saved self.old) }
         ensures err { OnErr result (self.new ≡ self.old) }
+        ensures sure { IsTrue (first_has_text self.old.doc.text self.old.undo) → IsOk result }
     {
-        keep_copy(&mut self.undo, &self.doc)?;
+        keep(&mut self.undo, &self.doc, self.is_kept)?;
         self.redo.clear();
+        self.is_kept = true;
         Ok(())
     }
 
-    /// Restores the pair that was kept last and has another text. Returns whether there is one. No text is copied.
+    /// Restores the pair that was kept last and has another text. Returns whether there is one.
     pub fn undo(&mut self) -> Result<bool, NoMemory>
         ensures answer { IfOk result (λ done. IsTrue done ↔ (0 < length (differing self.old.doc.text self.old.undo))) }
         ensures ok { OnOk result (self.new ≡ undone self.old) }
         ensures err { OnErr result (self.new ≡ self.old) }
+        ensures sure { differing self.old.doc.text self.old.undo ≡ [] → IsOk result }
     {
-        match pop_differing(&mut self.undo, &self.doc) {
-            None => Ok(false),
+        match first_differing(&self.undo, &self.doc) {
+            None => {
+                self.undo.clear();
+                self.is_kept = false;
+                Ok(false)
+            }
             Some(pair) => {
-                let present = mem::replace(&mut self.doc, pair.into_doc());
-                self.redo.push_front(Snapshot::of(present));
+                let restored = pair.to_doc()?;
+                let present = Snapshot::of(&self.doc)?;
+                pop_differing(&mut self.undo, &self.doc);
+                self.redo.push_front(present);
+                self.doc = restored;
+                self.is_kept = false;
                 Ok(true)
             }
         }
     }
 
-    /// Restores the pair that was undone last. Returns whether there is one. No text is copied.
+    /// Restores the pair that was undone last. Returns whether there is one.
     pub fn redo(&mut self) -> Result<bool, NoMemory>
         ensures answer { IfOk result (λ done. IsTrue done ↔ (0 < length self.old.redo)) }
         ensures ok { OnOk result (self.new ≡ redone self.old) }
         ensures err { OnErr result (self.new ≡ self.old) }
+        ensures sure { self.old.redo ≡ [] → IsOk result }
     {
-        match self.redo.pop_front() {
+        match self.redo.front() {
             None => Ok(false),
             Some(pair) => {
-                let present = mem::replace(&mut self.doc, pair.into_doc());
-                keep(&mut self.undo, present);
+                let restored = pair.to_doc()?;
+                keep(&mut self.undo, &self.doc, self.is_kept)?;
+                self.redo.pop_front();
+                self.doc = restored;
+                self.is_kept = false;
                 Ok(true)
             }
         }
@@ -121,22 +84,33 @@ fn first_has_text_of(pairs: &Snapshots, doc: &Doc) -> bool
     }
 }
 
-/// Drops the pairs up to the first one with another text than the document.
-fn pop_equal(pairs: &mut Snapshots, doc: &Doc)
-    ensures { pairs.new ≡ buffer (differing doc.now.text pairs.old.items) pairs.old.capacity }
+/// Counts the first pairs with the document's text, up to the first one with another.
+fn count_equal(pairs: &Snapshots, doc: &Doc) -> usize
+    ensures { result ≡ prefix_len (has_text doc.now.text) pairs.now.items }
 {
-    while first_has_text_of(pairs, doc) {
-        pairs.pop_front();
-    }
+    pairs
+        .iter()
+        .take_while(|pair| pair.has_text_of(doc))
+        .count()
 }
 
-/// Takes the first pair with another text than the document, and drops those before it.
-fn pop_differing(pairs: &mut Snapshots, doc: &Doc) -> Option<Snapshot>
-    ensures value { result ≡ slice_get (differing doc.now.text pairs.old.items) 0 }
-    ensures rest { pairs.new ≡ buffer (drop 1 (differing doc.now.text pairs.old.items)) pairs.old.capacity }
+/// Returns the first pair with another text than the document.
+fn first_differing<'a>(pairs: &'a Snapshots, doc: &Doc) -> Option<&'a Snapshot>
+    ensures { option_copied result ≡ slice_get (differing doc.now.text pairs.now.items) 0 }
 {
-    pop_equal(pairs, doc);
-    pairs.pop_front()
+    let equal = count_equal(pairs, doc);
+    pairs.nth_front(equal)
+}
+
+/// Drops the first pair with another text than the document, and those before it.
+fn pop_differing(pairs: &mut Snapshots, doc: &Doc)
+    ensures { pairs.new ≡ buffer (drop 1 (differing doc.now.text pairs.old.items)) pairs.old.capacity }
+{
+    let equal = count_equal(pairs, doc);
+    for _ in 0..equal {
+        pairs.pop_front();
+    }
+    pairs.pop_front();
 }
 
 /// Gives the first pair the document's cursor.
@@ -144,34 +118,25 @@ fn move_first_cursor(pairs: &mut Snapshots, doc: &Doc)
     requires { IsTrue (first_has_text doc.now.text pairs.old.items) }
     ensures { pairs.new ≡ buffer (take pairs.old.capacity (with_cursor doc.now.cursor pairs.old.items)) pairs.old.capacity }
 {
-    let at = doc.cursor();
     if let Some(mut first) = pairs.pop_front() {
-        first.set_cursor(at);
+        first.take_cursor(doc);
         pairs.push_front(first);
     }
 }
 
-/// Keeps text and cursor of the document as the first pair. The text is copied only where the first pair has another one.
-fn keep_copy(pairs: &mut Snapshots, doc: &Doc) -> Result<(), NoMemory>
+/// Keeps text and cursor of the document as the first pair. The text is copied only where the first pair has another
+/// one, and not even compared where the first pair is known to have it.
+fn keep(pairs: &mut Snapshots, doc: &Doc, is_kept: bool) -> Result<(), NoMemory>
+    requires { IsTrue is_kept → IsTrue (first_has_text doc.now.text pairs.old.items) }
     ensures ok { OnOk result (pairs.new ≡ buffer (take pairs.old.capacity (with_present doc.now pairs.old.items)) pairs.old.capacity) }
     ensures err { OnErr result (pairs.new ≡ pairs.old) }
+    ensures sure { IsTrue (first_has_text doc.now.text pairs.old.items) → IsOk result }
 {
-    if first_has_text_of(pairs, doc) {
+    if is_kept || first_has_text_of(pairs, doc) {
         move_first_cursor(pairs, doc);
     } else {
-        let copy = doc.copy()?;
-        pairs.push_front(Snapshot::of(copy));
+        let present = Snapshot::of(doc)?;
+        pairs.push_front(present);
     }
     Ok(())
-}
-
-/// Keeps text and cursor of the document as the first pair.
-fn keep(pairs: &mut Snapshots, doc: Doc)
-    ensures { pairs.new ≡ buffer (take pairs.old.capacity (with_present doc pairs.old.items)) pairs.old.capacity }
-{
-    if first_has_text_of(pairs, &doc) {
-        move_first_cursor(pairs, &doc);
-    } else {
-        pairs.push_front(Snapshot::of(doc));
-    }
 }

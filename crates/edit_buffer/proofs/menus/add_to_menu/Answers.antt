@@ -4,7 +4,6 @@ use Rattle.std.proofs.lemmas.List.Elements.{All-append, All-take}
 use Rattle.text_doc.specs.declared.completions.Completion.{Completion}
 use Rattle.std.specs.Prelude.{List}
 use Rattle.edit_buffer.specs.declared.menus.Menu.{Menu}
-use Rattle.edit_buffer.specs.declared.menus.TheConstants.{MAX_ITEMS}
 use Rattle.edit_buffer.specs.BufferState.{IsMenu, ReachWithin}
 use Rattle.edit_buffer.specs.Menus.{with_items}
 use Rattle.edit_buffer.proofs.menus.add_to_menu.Goals as goal
@@ -12,13 +11,13 @@ use Rattle.edit_buffer.proofs.menus.add_to_menu.Goals as goal
 IsMenu-with_items : (m : Menu) (more : List Completion) → IsMenu m → ReachWithin m.original.cursor more → IsMenu (with_items m more)
 IsMenu-with_items m more menu reach = record {
   original = menu.original;
-  few = omega (arith, length-take MAX_ITEMS (m.items ++ more));
-  reach = All-take (λ item. item.back ≤ m.original.cursor) MAX_ITEMS (m.items ++ more)
+  few = omega (arith, length-take 10000 (m.items ++ more));
+  reach = All-take (λ item. item.back ≤ m.original.cursor) 10000 (m.items ++ more)
       (All-append (λ item. item.back ≤ m.original.cursor) m.items more menu.reach reach);
   chosen = λ i e.
       let within : i < length m.items = menu.chosen i e in
-      let few : length m.items ≤ MAX_ITEMS = menu.few in
-      omega (arith, length-take MAX_ITEMS (m.items ++ more), length-append m.items more);
+      let few : length m.items ≤ 10000 = menu.few in
+      omega (arith, length-take 10000 (m.items ++ more), length-append m.items more);
 }
 
 pub returns-clause-menu : goal.returns-clause-menu

@@ -2,7 +2,6 @@
 use Rattle.std.proofs.Common.{◌≡◌, ℕ, ◌+◌, ◌-◌, ◌≤◌, cond, List, ◌++◌, length, take, Result, Ok, Err, OnOk, sym, ◌∙◌, arith, rules}
 use Rattle.std.proofs.Math.Seq.{take-append-add}
 use Rattle.std.specs.Result.{is_ok}
-use Rattle.edit_buffer.specs.declared.menus.TheConstants.{MAX_ITEMS}
 use Rattle.edit_buffer.proofs.menus.append_items.Goals as goal
 
 take-append : {X : Type 0} (xs ys : List X) (n : ℕ) → length xs ≤ n → take n (xs ++ ys) ≡ xs ++ take (n - length xs) ys
@@ -16,4 +15,4 @@ joined (Err x) n xs ys now fits e = tt
 
 pub returns-clause-ok : goal.returns-clause-ok
 returns-clause-ok c =
-    rw c.from_vec.ensures (joined c.append-answer.result MAX_ITEMS c.args.items.now c.args.more _ c.requires (search rules))
+    rw c.from_vec.ensures (joined c.append-answer.result 10000 c.args.items.now c.args.more _ c.requires (search rules))

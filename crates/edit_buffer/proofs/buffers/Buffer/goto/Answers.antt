@@ -20,6 +20,7 @@ invariant_of-self-2 c =
           (IsBufferState-moved_to (state_of b) c.args.line c.args.at c.self.invariant.state within place);
       undo_room = c.self.invariant.undo_room;
       redo_room = c.self.invariant.redo_room;
+      is_kept = λ e. cc;
     }
 
 pub returns-clause-ok : goal.returns-clause-ok

@@ -6,10 +6,10 @@ use Rattle.edit_buffer.proofs.buffers.Buffer.redo.Goals as goal
 
 pub invariant_of-self-in-Some : goal.invariant_of-self-in-Some
 invariant_of-self-in-Some c =
-    let h : IsRedone c.self.inside c.in-Some.pair c.replace-present.new.dest c.keep.new.pairs c.pop_front.new.self = search rules in
+    let h : IsRedone c.self.inside c.in-Some.pair.now c.in_ok-restored-in-Some.restored c.keep.new.pairs c.pop_front.new.self = search rules in
     IsKept-restored _ _ _ _ _ _ _ (restored_by_redo _ _ _ _ _ h)
 
-pub returns-in-Some-clause-ok : goal.returns-in-Some-clause-ok
-returns-in-Some-clause-ok c =
-    let h : IsRedone c.self.inside c.in-Some.pair c.replace-present.new.dest c.keep.new.pairs c.pop_front.new.self = search rules in
+pub returns-in_ok-keep-in-Some-clause-ok : goal.returns-in_ok-keep-in-Some-clause-ok
+returns-in_ok-keep-in-Some-clause-ok c =
+    let h : IsRedone c.self.inside c.in-Some.pair.now c.in_ok-restored-in-Some.restored c.keep.new.pairs c.pop_front.new.self = search rules in
     state_of-redone _ _ _ _ _ h ∙ ap redone c.self.view_is
