@@ -1,8 +1,7 @@
 //! Keys, and a key with the text that was read for it.
-ghost use Rattle.std.specs.Prelude.{◌≡◌, IfOk};
-
 use crate::key_text::KeyText;
-use std::alloc::AllocError;
+use sequences::{Item, NoMemory};
+use std::alloc::Global;
 
 /// A key of a terminal, or what stands for one.
 #[derive(Clone, Copy, Debug, PartialEq, Eq)]
@@ -46,13 +45,17 @@ pub enum Key {
 #[derive(Debug, Drop)]
 pub struct KeyPress {
     pub key: Key,
-    /// The sequence of a key that is written as one, the pasted text of `Paste`, or the whole ignored sequence.
+    /// What came for the key: a plain character itself, the whole sequence of a key that the terminal sends as one, and
+    /// that of `Ignored`. A paste holds the pasted text without its marks, with line feeds for its line ends, and at
+    /// most its first 32,769 characters.
     pub text: KeyText,
 }
 
 impl KeyPress {
-    /// The same key with a text of its own.
-    pub fn copy(&self) -> Result<KeyPress, AllocError>
+    ghost use Rattle.std.specs.Prelude.{◌≡◌, IfOk};
+
+    /// Returns the same key with a text of its own.
+    pub fn copy(&self) -> Result<KeyPress, NoMemory>
         ensures { IfOk result (λ press. press ≡ self.now) }
     {
         let text = self.text.copy()?;
@@ -60,5 +63,22 @@ impl KeyPress {
             key: self.key,
             text,
         })
+    }
+}
+
+impl Item for KeyPress {
+    fn copied(&self) -> Result<Self, NoMemory> {
+        self.copy()
+    }
+}
+
+impl Item for Key {
+    fn copied(&self) -> Result<Self, NoMemory> {
+        Ok(*self)
+    }
+
+    fn copied_all(alloc: Global, items: &[Self]) -> Result<Vec<Self>, NoMemory> {
+        let copies = Vec::from_slice(alloc, items)?;
+        Ok(copies)
     }
 }

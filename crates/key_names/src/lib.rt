@@ -3,6 +3,7 @@
 
 mod key;
 mod key_text;
+pub mod laws;
 mod naming;
 #[cfg(test)]
 mod tests;
@@ -10,4 +11,4 @@ mod tests;
 pub use key::{Key, KeyPress};
 pub use key_text::KeyText;
 pub use naming::{UnknownKey, read_name, write_name};
-pub use std::alloc::AllocError as NoMemory;
+pub use sequences::NoMemory;

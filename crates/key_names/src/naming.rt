@@ -7,7 +7,8 @@ ghost use Rattle.key_names.specs.KeyName.{name_of, word_of, control_name, functi
 
 use crate::key::Key;
 use crate::key_text::KeyText;
-use std::alloc::{AllocError, Global};
+use sequences::NoMemory;
+use std::alloc::Global;
 use thiserror::Error;
 
 /// No key has the name that was to be read.
@@ -68,32 +69,35 @@ pub fn read_name(name: &str) -> Result<Key, UnknownKey>
 }
 
 /// Writes the name of a key that has one.
-pub fn write_name(alloc: Global, key: Key) -> Result<KeyText, AllocError>
+pub fn write_name(alloc: Global, key: Key) -> Result<KeyText, NoMemory>
     requires { IsSome (name_of key) }
     ensures { IfOk result (λ text. name_of key ≡ Some text) }
 {
     match key {
         Key::Control(letter) => control_text(alloc, letter),
-        Key::Char(c) if c != ' ' => char_text(alloc, c),
+        Key::Char(c) if c != ' ' => KeyText::from_slice(alloc, &[c]),
         _ => match word_of(key) {
-            Some(word) => KeyText::from_ascii(alloc, word),
+            Some(word) => ascii_text(alloc, word),
             None => unreachable!(),
         },
     }
 }
 
-fn char_text(alloc: Global, c: char) -> Result<KeyText, AllocError>
-    ensures { IfOk result (λ text. text ≡ c ∷ []) }
+// The text whose characters are the codes of these bytes.
+fn ascii_text(alloc: Global, bytes: &[u8]) -> Result<KeyText, NoMemory>
+    ensures { IfOk result (λ text. text ≡ bytes.now) }
 {
     let mut text = KeyText::new(alloc);
-    text.push(c)?;
+    for byte in bytes {
+        text.push(*byte as char)?;
+    }
     Ok(text)
 }
 
-fn control_text(alloc: Global, letter: char) -> Result<KeyText, AllocError>
+fn control_text(alloc: Global, letter: char) -> Result<KeyText, NoMemory>
     ensures { IfOk result (λ text. text ≡ 99 ∷ 45 ∷ letter ∷ []) }
 {
-    let mut text = KeyText::from_ascii(alloc, b"c-")?;
+    let mut text = ascii_text(alloc, b"c-")?;
     text.push(letter)?;
     Ok(text)
 }

@@ -1,4 +1,5 @@
-//! Names as a user writes them, and the lists of characters.
+//! Names as a user writes them, and copies of a press.
+use crate::laws::reads_what_is_written;
 use crate::{Key, KeyPress, KeyText, UnknownKey, read_name, write_name};
 use std::test::Fail;
 
@@ -41,17 +42,16 @@ fn writes_names(rt: HostRuntime) -> Result<(), Fail> {
     assert_eq!(rt; name.as_slice(), ['c', '-', '_'].as_slice());
     let name = write_name(rt.alloc(), Key::Char('é'))?;
     assert_eq!(rt; name.as_slice(), ['é'].as_slice());
+    assert_eq!(rt;
+        reads_what_is_written(rt.alloc(), Key::Char('é'))?,
+        Key::Char('é')
+    );
     Ok(())
 }
 
 #[test]
 fn copies_a_press(rt: HostRuntime) -> Result<(), Fail> {
-    let mut text = KeyText::new(rt.alloc());
-    text.push('\u{1B}')?;
-    text.push('[')?;
-    assert_eq!(rt; text.len(), 2);
-    assert_eq!(rt; text.get(1), Some('['));
-    assert_eq!(rt; text.get(2), None);
+    let text = KeyText::from_slice(rt.alloc(), &['\u{1B}', '['])?;
     let press = KeyPress {
         key: Key::Ignored,
         text,

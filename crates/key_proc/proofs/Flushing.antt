@@ -13,7 +13,7 @@ use Rattle.key_proc.specs.Firing.{keys_of, active, chosen, matching, eager_match
 use Rattle.key_proc.specs.Laws.{held_after}
 
 -- an answer that waits only where that is allowed, and else takes a key
-abbrev IsTaking : Bool → Fired → Type 0
+abbrev pub IsTaking : Bool → Fired → Type 0
 IsTaking may_wait (Fire command save last used) = 1 ≤ used
 IsTaking may_wait (Dropped press) = Unit {0}
 IsTaking may_wait Wait = may_wait ≡ true
@@ -43,17 +43,22 @@ waits true t = tt
 waits false true = refl
 waits false false = tt
 
-takes : (bs : List Binding) (first : KeyPress) (more : List KeyPress) (flush : Bool) → IsTaking (not flush) (fires_among bs (first ∷ more) flush)
-takes bs first more flush =
-    let P : Fired → Type 0 = IsTaking (not flush) in
+-- whatever waiting shows of the held keys
+pub takes-by : (may_wait : Bool) (bs : List Binding) (first : KeyPress) (more : List KeyPress) (flush : Bool) →
+    IfSome (waiting (not flush && list_any (longer (keys_of (first ∷ more))) bs)) (IsTaking may_wait) → IsTaking may_wait (fires_among bs (first ∷ more) flush)
+takes-by may_wait bs first more flush awaited =
+    let P : Fired → Type 0 = IsTaking may_wait in
     let n : ℕ = length (first ∷ more) in
     let eager : Option Fired = option_map (fire_on first more n) (chosen (filter (eager_matching (keys_of (first ∷ more))) bs)) in
     let wait : Option Fired = waiting (not flush && list_any (longer (keys_of (first ∷ more))) bs) in
     or_else P (answer bs first more flush) (Dropped first)
     (either P eager (option_or wait (fired_on_longest first more bs n))
-    (firing (not flush) first more n (chosen (filter (eager_matching (keys_of (first ∷ more))) bs)) (omega arith))
-    (either P wait (fired_on_longest first more bs n) (waits flush (list_any (longer (keys_of (first ∷ more))) bs)) (on_longest (not flush) first more bs n)))
+    (firing may_wait first more n (chosen (filter (eager_matching (keys_of (first ∷ more))) bs)) (omega arith))
+    (either P wait (fired_on_longest first more bs n) awaited (on_longest may_wait first more bs n)))
     tt
+
+pub takes : (bs : List Binding) (first : KeyPress) (more : List KeyPress) (flush : Bool) → IsTaking (not flush) (fires_among bs (first ∷ more) flush)
+takes bs first more flush = takes-by (not flush) bs first more flush (waits flush (list_any (longer (keys_of (first ∷ more))) bs))
 
 no_wait : (bs : List Binding) (held : List KeyPress) → fires_among bs held true ≡ Wait → ⊥
 no_wait bs [] e = absurd cc

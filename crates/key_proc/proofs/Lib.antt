@@ -5,3 +5,6 @@ pub mod Answering
 pub mod Presses
 pub mod Fewest
 pub mod Flushing
+mod RowLemmas
+mod Agreeing
+mod Lowering

@@ -51,6 +51,11 @@ any-step test bindings b new old passes e passed before =
     e ∙ ap (λ t. old || t) (passed ∙ sym (or_false (test b))) ∙ ap (λ o. o || (test b || false)) before
     ∙ sym (list_any-append test bindings (b ∷ []))
 
+-- the same with one more that does not pass
+pub any-same : (test : Binding → Bool) (bindings : List Binding) (b : Binding) (old : Bool) →
+    test b ≡ false → old ≡ list_any test bindings → old ≡ list_any test (bindings ++ b ∷ [])
+any-same test bindings b old fails before = any-step test bindings b old old false (sym (or_false old)) (sym fails) before
+
 active_by : (facts : Fact → Bool) (table : List Binding) (b : Binding) → active (table ++ b ∷ []) facts ≡ active table facts ++ cond (holds facts b.filter) (b ∷ []) []
 active_by facts table b = filter-append (λ binding. holds facts binding.filter) table (b ∷ [])
 

@@ -7,3 +7,4 @@ pub mod HeldKeys
 pub mod Choices
 pub mod Decisions
 pub mod Laws
+pub mod Rows

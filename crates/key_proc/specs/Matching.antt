@@ -30,3 +30,9 @@ begins bound keys = nat_lt (length keys) (length bound) && matches (take (length
 -- how many of the bound keys are `Any`
 abbrev pub count_any : List Key → ℕ
 count_any bound = count_by is_any bound
+
+-- bound keys match keys at each place that both have
+abbrev pub agrees : List Key → List Key → Bool
+agrees [] keys = true
+agrees (first ∷ bound) [] = true
+agrees (first ∷ bound) (key ∷ keys) = matches_key first key && agrees bound keys

@@ -55,7 +55,7 @@ impl<const N: usize> Bindings<N> {
     ghost use Rattle.std.specs.Prelude.{◌≡◌, length};
     ghost use Rattle.key_proc.specs.Sizes.{AllSized};
 
-    /// The table of these bindings.
+    /// Returns the table of these bindings.
     pub fn from_rows(rows: Vec<Binding>) -> Bindings<N>
         requires count { length rows.items ≡ N }
         requires keys { AllSized rows.items }
@@ -64,7 +64,7 @@ impl<const N: usize> Bindings<N> {
         Bindings { rows }
     }
 
-    /// The bindings, in the order in which they were added.
+    /// Returns the bindings, in the order in which they were added.
     pub fn as_slice(&self) -> &[Binding]
         ensures rows { result.now ≡ self.now }
         ensures count { length self.now ≡ N }

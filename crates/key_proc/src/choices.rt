@@ -1,14 +1,16 @@
 //! The best bindings for the held keys, found in one walk over a table.
-ghost use Rattle.std.specs.Prelude.{◌≡◌, ◌≤◌, ◌++◌, [], ◌∷◌, List, take, length};
+ghost use Rattle.std.specs.Prelude.{◌≡◌, ◌≤◌, ◌++◌, [], ◌∷◌, ◌&&◌, List, take, length};
 ghost use Rattle.key_proc.specs.declared.bindings.Binding.{Binding};
+ghost use Rattle.key_proc.specs.Sizes.{AllSized};
 ghost use Rattle.key_proc.specs.Facts.{has};
 ghost use Rattle.key_proc.specs.Filters.{holds};
+ghost use Rattle.key_proc.specs.Matching.{agrees};
 ghost use Rattle.key_proc.specs.Firing.{active, matching, eager_matching, longer};
 ghost use Rattle.key_proc.specs.Choices.{choice_of, best_of, better, IsFound};
 
 use crate::bindings::{Binding, Bindings, Save};
 use crate::facts::Facts;
-use crate::matching::{begins, count_any, matches};
+use crate::matching::{agrees, begins, count_any, matches};
 use key_names::Key;
 
 /// What is kept of a binding that may fire.
@@ -65,7 +67,7 @@ impl Found {
         self.three = better(three, self.three, choice);
     }
 
-    /// The best of the bindings that match the first `count` keys.
+    /// Returns the best of the bindings that match the first `count` keys.
     pub(crate) fn on_front(&self, count: usize) -> Option<Choice>
         requires some { 1 ≤ count }
         requires few { count ≤ 3 }
@@ -133,20 +135,22 @@ fn better(counts: bool, best: Option<Choice>, choice: Choice) -> Option<Choice>
     }
 }
 
-// The binding's filter holds.
-fn is_active(binding: &Binding, facts: &Facts) -> bool
-    ensures { result ≡ holds (has facts.now) binding.now.filter }
+// The binding may fire: its keys agree with these, and its filter holds, which is asked only then.
+fn may_fire(binding: &Binding, facts: &Facts, keys: &[Key]) -> bool
+    ensures { result ≡ (agrees binding.now.keys keys.now && holds (has facts.now) binding.now.filter) }
 {
-    binding.filter.holds(facts)
+    agrees(binding.keys.as_slice(), keys) && binding.filter.holds(facts)
 }
 
-/// What a table has for these keys, where these facts hold.
+/// Finds what a table has for these keys, where these facts hold. No filter is asked of a binding whose keys do not agree
+/// with these.
 pub(crate) fn find<const N: usize>(table: &Bindings<N>, facts: &Facts, keys: &[Key]) -> Found
-    ensures { IsFound (active table.now (has facts.now)) keys.now result }
+    ensures found { IsFound (active table.now (has facts.now)) keys.now result }
+    ensures sized { AllSized table.now }
 {
     let mut found = Found::nothing(keys);
     for binding in table.as_slice() {
-        if is_active(binding, facts) {
+        if may_fire(binding, facts, keys) {
             found.see(binding, keys);
         }
     }

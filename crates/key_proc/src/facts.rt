@@ -52,7 +52,7 @@ impl Facts {
     ghost use Rattle.key_proc.specs.declared.facts.Fact.{Fact};
     ghost use Rattle.key_proc.specs.Facts.{has, is_same_fact};
 
-    /// No fact holds.
+    /// Returns facts of which none holds.
     pub fn none() -> Facts
         ensures { (fact : Fact) → has result fact ≡ false }
     {
@@ -61,7 +61,7 @@ impl Facts {
         }
     }
 
-    /// The same facts, and this one.
+    /// Returns the same facts with this one.
     pub fn with(self, fact: Fact) -> Facts
         ensures { (other : Fact) → has result other ≡ (is_same_fact other fact || has self other) }
     {
@@ -70,7 +70,7 @@ impl Facts {
         Facts { holding }
     }
 
-    /// Whether a fact holds.
+    /// Tells whether a fact holds.
     pub fn has(&self, fact: Fact) -> bool
         ensures { result ≡ has self.now fact }
     {

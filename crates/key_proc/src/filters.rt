@@ -23,14 +23,14 @@ pub enum Filter {
 }
 
 impl Filter {
-    /// Holds where the filter inside doesn't.
+    /// Returns the filter that holds where the one inside doesn't.
     pub fn unless(alloc: Global, inner: Filter) -> Result<Filter, AllocError>
         ensures { IfOk result (λ filter. filter ≡ Filter.Not inner) }
     {
         Ok(Filter::Not(Boxed::new(alloc, inner)?))
     }
 
-    /// Holds where both do.
+    /// Returns the filter that holds where both do.
     pub fn both(alloc: Global, first: Filter, second: Filter) -> Result<Filter, AllocError>
         ensures { IfOk result (λ filter. filter ≡ Filter.And first second) }
     {
@@ -38,7 +38,7 @@ impl Filter {
         Ok(Filter::And(first, Boxed::new(alloc, second)?))
     }
 
-    /// Holds where one of the two does.
+    /// Returns the filter that holds where one of the two does.
     pub fn either(alloc: Global, first: Filter, second: Filter) -> Result<Filter, AllocError>
         ensures { IfOk result (λ filter. filter ≡ Filter.Or first second) }
     {
@@ -46,7 +46,7 @@ impl Filter {
         Ok(Filter::Or(first, Boxed::new(alloc, second)?))
     }
 
-    /// Whether the filter holds where these facts do.
+    /// Tells whether the filter holds where these facts do.
     pub fn holds(&self, facts: &Facts) -> bool
         ensures { result ≡ holds (has facts.now) self.now }
     {

@@ -52,13 +52,14 @@ impl Model for Held {
 }
 
 impl Held {
-    ghost use Rattle.std.specs.Prelude.{◌≡◌, ◌↔◌, ◌-◌, ◌<◌, ◌≤◌, [], ◌∷◌, ◌++◌, List, drop, length, take, slice_get, IsTrue};
+    ghost use Rattle.std.specs.Prelude.{◌≡◌, ◌≢◌, ◌↔◌, ◌-◌, ◌<◌, ◌≤◌, [], ◌∷◌, ◌++◌, List, drop, length, take, slice_get, IsTrue};
     ghost use Rattle.key_names.specs.declared.key.KeyPress.{KeyPress};
     ghost use Rattle.key_proc.specs.Facts.{has};
+    ghost use Rattle.key_proc.specs.Sizes.{AllSized};
     ghost use Rattle.key_proc.specs.Firing.{keys_of, active, fires, taken};
     ghost use Rattle.key_proc.specs.Decisions.{decided, UsesSome, answer_of};
 
-    /// No key is held.
+    /// Returns no keys.
     pub fn new() -> Held
         ensures { result ≡ [] }
     {
@@ -83,7 +84,7 @@ impl Held {
         }
     }
 
-    /// The number of keys that are held.
+    /// Returns the number of keys that are held.
     pub fn len(&self) -> usize
         ensures count { result ≡ length self.now }
         ensures few { result ≤ 3 }
@@ -96,7 +97,7 @@ impl Held {
         }
     }
 
-    /// Whether no key is held.
+    /// Tells whether no key is held.
     pub fn is_empty(&self) -> bool
         ensures { IsTrue result ↔ (self.now ≡ []) }
     {
@@ -114,6 +115,23 @@ impl Held {
     ) -> Fired
         ensures answer { result ≡ fires table.now (has facts.now) self.old flush }
         ensures rest { self.new ≡ drop (taken result) self.old }
+        ensures fewer { result ≢ Fired.Wait → result ≢ Fired.Nothing → length self.new < length self.old }
+        ensures few { result ≡ Fired.Wait → length self.new < 3 }
+    {
+        let fired = self.decide_all(table, facts, flush);
+        fired
+    }
+
+    // What `decide` answers and leaves.
+    fn decide_all<const N: usize>(
+        &mut self,
+        table: &Bindings<N>,
+        facts: &Facts,
+        flush: bool,
+    ) -> Fired
+        ensures answer { result ≡ fires table.now (has facts.now) self.old flush }
+        ensures rest { self.new ≡ drop (taken result) self.old }
+        ensures sized { result ≡ Fired.Wait → AllSized table.now }
     {
         if self.len() == 0 {
             return Fired::Nothing;
@@ -130,6 +148,7 @@ impl Held {
         requires { 1 ≤ length self.now }
         ensures decided { result ≡ decided (active table.now (has facts.now)) (keys_of self.now) flush }
         ensures used { UsesSome result (length self.now) }
+        ensures sized { AllSized table.now }
     {
         let count = self.len();
         let keys = self.keys();

@@ -1,9 +1,12 @@
 //! What follows from the rules by which a binding fires. These functions do nothing: their contracts are the laws.
 ghost use Rattle.std.specs.Prelude.{◌≡◌, ◌≢◌, ◌≤◌, ◌<◌, ◌&&◌, ◌++◌, ◌∷◌, [], ℕ, List, Bool, false, true, length, not, take, drop};
-ghost use Rattle.std.specs.List.{list_any};
+ghost use Rattle.std.specs.List.{list_any, list_all};
 ghost use Rattle.key_names.specs.declared.key.KeyPress.{KeyPress};
 ghost use Rattle.key_proc.specs.declared.facts.Fact.{Fact};
 ghost use Rattle.key_proc.specs.declared.bindings.Binding.{Binding};
+ghost use Rattle.key_proc.specs.declared.rows.FactTest.{FactTest};
+ghost use Rattle.key_proc.specs.Filters.{holds};
+ghost use Rattle.key_proc.specs.Rows.{all_filter, test_holds};
 ghost use Rattle.key_proc.specs.Firing.{keys_of, active, matching, eager_matching, longer, fire_on, fires};
 ghost use Rattle.key_proc.specs.Laws.{HasFewestAny, MayFire, NoneOnLonger, held_after};
 
@@ -38,4 +41,9 @@ pub fn flush_ends()
         fires table facts held flush ≡ Fired.Nothing → held ≡ [] }
     ensures ends { (table : List Binding) (rounds : List (Fact → Bool)) (held : List KeyPress) →
         length held ≤ length rounds → held_after table rounds held ≡ [] }
+{}
+
+/// The filter of a row's tests holds exactly where all of them do.
+pub fn rows_hold_by_tests()
+    ensures { (facts : Fact → Bool) (tests : List FactTest) → holds facts (all_filter tests) ≡ list_all (test_holds facts) tests }
 {}

@@ -8,8 +8,9 @@ mod decisions;
 mod facts;
 mod filters;
 mod held;
-mod laws;
+pub mod laws;
 mod matching;
+mod rows;
 #[cfg(test)]
 mod tests;
 
@@ -18,6 +19,6 @@ pub use bound_keys::BoundKeys;
 pub use facts::{Fact, Facts};
 pub use filters::Filter;
 pub use held::{Fired, Held};
-pub use laws::{fewest_any_fires, flush_ends};
+pub use rows::{BindingRow, FactFilter, FactTest, RowKeys, bindings_of};
+pub use sequences::NoMemory;
 pub use sqlite_items::Boxed;
-pub use std::alloc::AllocError as NoMemory;

@@ -1,6 +1,6 @@
 //! Whether bound keys match keys that are held.
 ghost use Rattle.std.specs.Prelude.{◌≡◌, ◌↔◌, IsTrue};
-ghost use Rattle.key_proc.specs.Matching.{same_key, is_any, matches_key, matches, begins, count_any};
+ghost use Rattle.key_proc.specs.Matching.{same_key, is_any, matches_key, matches, begins, agrees, count_any};
 
 use key_names::Key;
 
@@ -25,7 +25,7 @@ fn matches_key(bound: Key, key: Key) -> bool
     is_any(bound) || is_same(bound, key)
 }
 
-/// The bound keys match as many keys, each its own.
+/// Tells whether bound keys match as many keys, each its own.
 pub(crate) fn matches(bound: &[Key], keys: &[Key]) -> bool
     ensures { result ≡ matches bound.now keys.now }
 {
@@ -38,14 +38,28 @@ pub(crate) fn matches(bound: &[Key], keys: &[Key]) -> bool
     }
 }
 
-/// There are more bound keys than keys, and the first of them match.
+/// Tells whether there are more bound keys than keys, and the first of them match.
 pub(crate) fn begins(bound: &[Key], keys: &[Key]) -> bool
     ensures { result ≡ begins bound.now keys.now }
 {
     keys.len() < bound.len() && matches(&bound[..keys.len()], keys)
 }
 
-/// The number of bound keys that stand for each key.
+/// Tells whether bound keys match keys at each place that both have, as they do where they match some first keys, or
+/// begin with all.
+pub(crate) fn agrees(bound: &[Key], keys: &[Key]) -> bool
+    ensures { result ≡ agrees bound.now keys.now }
+{
+    match bound {
+        [] => true,
+        [first, rest @ ..] => match keys {
+            [] => true,
+            [key, more @ ..] => matches_key(*first, *key) && agrees(rest, more),
+        },
+    }
+}
+
+/// Returns the number of bound keys that stand for each key.
 pub(crate) fn count_any(bound: &[Key]) -> usize
     ensures { result ≡ count_any bound.now }
 {

@@ -1,8 +1,9 @@
 //! Which binding fires, case by case.
-ghost use Rattle.std.specs.Prelude.{◌≡◌};
-ghost use Rattle.key_proc.specs.Sizes.{has_size};
-
-use crate::{Binding, Bindings, BoundKeys, Fact, Facts, Filter, Fired, Held, NoMemory, Save};
+use crate::BindingRow::{Eager, Plain};
+use crate::RowKeys::{One, Three, Two};
+use crate::{
+    BindingRow, Bindings, Fact, FactFilter, FactTest, Facts, Fired, Held, Save, bindings_of,
+};
 use key_names::{Key, KeyPress, KeyText};
 use std::alloc::Global;
 use std::process::Abort;
@@ -18,52 +19,55 @@ const X: Key = Key::Control('x');
 
 const ANY: Key = Key::Any;
 
-// When a row of the table is active.
-#[derive(Clone, Copy)]
-enum When {
-    Always,
-    Holds(Fact),
-    MenuAndEmpty,
-    MenuOrEmpty,
-    SearchingWithoutMenu,
-}
+const EMACS: FactFilter = FactFilter::All(&[FactTest::Is(Fact::Emacs)]);
 
-const EMACS: When = When::Holds(Fact::Emacs);
+const INSERT: FactFilter = FactFilter::All(&[FactTest::Is(Fact::Insert)]);
 
-const INSERT: When = When::Holds(Fact::Insert);
+const NAVIGATION: FactFilter = FactFilter::All(&[FactTest::Is(Fact::Navigation)]);
 
-const NAVIGATION: When = When::Holds(Fact::Navigation);
+const REPLACE: FactFilter = FactFilter::All(&[FactTest::Is(Fact::Replace)]);
 
-const REPLACE: When = When::Holds(Fact::Replace);
+const OPERATOR: FactFilter = FactFilter::All(&[FactTest::Is(Fact::Operator)]);
 
-const OPERATOR: When = When::Holds(Fact::Operator);
+const SELECTION: FactFilter = FactFilter::All(&[FactTest::Is(Fact::Selection)]);
 
-const SELECTION: When = When::Holds(Fact::Selection);
+const SUGGESTION: FactFilter = FactFilter::All(&[FactTest::Is(Fact::Suggestion)]);
 
-const SUGGESTION: When = When::Holds(Fact::Suggestion);
+const BOTH: FactFilter = FactFilter::All(&[FactTest::Is(Fact::Menu), FactTest::Is(Fact::Empty)]);
 
-// The command, the keys, when it is active, and whether it is eager.
-const ROWS: [(u32, &[Key], When, bool); 20] = [
-    (1, &[A], EMACS, false),
-    (2, &[A, B], EMACS, false),
-    (3, &[A, B, C], EMACS, false),
-    (4, &[A], INSERT, true),
-    (5, &[A, B], INSERT, false),
-    (6, &[ANY], NAVIGATION, false),
-    (7, &[A, ANY], NAVIGATION, false),
-    (8, &[ANY, B], NAVIGATION, false),
-    (9, &[ANY, B, C], REPLACE, false),
-    (10, &[A, ANY, C], REPLACE, false),
-    (11, &[A, B, ANY], REPLACE, false),
-    (12, &[A], OPERATOR, false),
-    (13, &[ANY], OPERATOR, false),
-    (14, &[A], SELECTION, false),
-    (15, &[A], SELECTION, false),
-    (16, &[ANY], SUGGESTION, true),
-    (17, &[A], When::MenuAndEmpty, false),
-    (18, &[B], When::MenuOrEmpty, false),
-    (19, &[C], When::SearchingWithoutMenu, false),
-    (20, &[X], When::Always, false),
+const ONE: FactFilter = FactFilter::Either(
+    &[FactTest::Is(Fact::Menu)],
+    &[FactTest::Is(Fact::Empty)],
+);
+
+const WITHOUT: FactFilter = FactFilter::All(&[
+    FactTest::Is(Fact::Searching),
+    FactTest::Not(Fact::Menu),
+]);
+
+const ALWAYS: FactFilter = FactFilter::All(&[]);
+
+const ROWS: [BindingRow; 20] = [
+    Plain(One(A), EMACS, Save::Always, 1),
+    Plain(Two(A, B), EMACS, Save::Always, 2),
+    Plain(Three(A, B, C), EMACS, Save::Always, 3),
+    Eager(One(A), INSERT, Save::Always, 4),
+    Plain(Two(A, B), INSERT, Save::Always, 5),
+    Plain(One(ANY), NAVIGATION, Save::Always, 6),
+    Plain(Two(A, ANY), NAVIGATION, Save::Always, 7),
+    Plain(Two(ANY, B), NAVIGATION, Save::Always, 8),
+    Plain(Three(ANY, B, C), REPLACE, Save::Always, 9),
+    Plain(Three(A, ANY, C), REPLACE, Save::Always, 10),
+    Plain(Three(A, B, ANY), REPLACE, Save::Always, 11),
+    Plain(One(A), OPERATOR, Save::Always, 12),
+    Plain(One(ANY), OPERATOR, Save::Always, 13),
+    Plain(One(A), SELECTION, Save::Always, 14),
+    Plain(One(A), SELECTION, Save::Always, 15),
+    Eager(One(ANY), SUGGESTION, Save::Always, 16),
+    Plain(One(A), BOTH, Save::Always, 17),
+    Plain(One(B), ONE, Save::Always, 18),
+    Plain(One(C), WITHOUT, Save::Always, 19),
+    Plain(One(X), ALWAYS, Save::Always, 20),
 ];
 
 // The command, the last key and the number of keys of what fires; the key that is dropped.
@@ -181,44 +185,6 @@ const CASES: [(&[Fact], &[Key], bool, Answer, usize); 36] = [
     (&[], &[X], false, Answer::Fire(20, X, 1), 0),
 ];
 
-fn filter_of(alloc: Global, when: When) -> Result<Filter, NoMemory> {
-    let menu = Filter::Is(Fact::Menu);
-    match when {
-        When::Always => Ok(Filter::Always),
-        When::Holds(fact) => Ok(Filter::Is(fact)),
-        When::MenuAndEmpty => Filter::both(alloc, menu, Filter::Is(Fact::Empty)),
-        When::MenuOrEmpty => Filter::either(alloc, menu, Filter::Is(Fact::Empty)),
-        When::SearchingWithoutMenu => {
-            let without = Filter::unless(alloc, menu)?;
-            Filter::both(alloc, Filter::Is(Fact::Searching), without)
-        },
-    }
-}
-
-fn has_size(binding: &Binding) -> bool
-    ensures { result ≡ has_size binding.now }
-{
-    let count = binding.keys.len();
-    1 <= count && count <= 3
-}
-
-fn table(rt: &impl Abort, alloc: Global) -> Result<Bindings<20>, Fail> {
-    let mut rows = Vec::new(alloc);
-    for (command, keys, when, eager) in ROWS {
-        let binding = Binding {
-            keys: BoundKeys::from_slice(alloc, keys)?,
-            filter: filter_of(alloc, when)?,
-            eager,
-            save: Save::Always,
-            command,
-        };
-        assert!(rt; has_size(&binding));
-        rows.push(binding)?;
-    }
-    assert_eq!(rt; rows.len(), 20);
-    Ok(Bindings::from_rows(rows))
-}
-
 fn facts_of(facts: &[Fact]) -> Facts {
     let mut holding = Facts::none();
     for fact in facts {
@@ -268,7 +234,7 @@ fn decided(
 
 #[test]
 fn fires_by_the_rules(rt: HostRuntime) -> Result<(), Fail> {
-    let table = table(&rt, rt.alloc())?;
+    let table = bindings_of::<20>(rt.alloc(), &ROWS)?;
     for (facts, keys, flush, answer, left) in CASES {
         assert_eq!(rt;
             decided(&rt, rt.alloc(), &table, facts, keys, flush),
@@ -276,17 +242,5 @@ fn fires_by_the_rules(rt: HostRuntime) -> Result<(), Fail> {
             "facts {facts:?}, keys {keys:?}"
         );
     }
-    Ok(())
-}
-
-#[test]
-fn keeps_bound_keys(rt: HostRuntime) -> Result<(), Fail> {
-    let mut bound = BoundKeys::new(rt.alloc());
-    bound.push(A)?;
-    bound.push(ANY)?;
-    let twin = bound.copy()?;
-    assert_eq!(rt; twin.as_slice(), [A, ANY].as_slice());
-    assert_eq!(rt; twin.get(1), Some(ANY));
-    assert_eq!(rt; twin.get(2), None);
     Ok(())
 }

@@ -3,12 +3,13 @@ use Prim.Native.Nat.{zero, suc}
 use Rattle.std.proofs.Common.{◌≡◌, ℕ, ◌<◌, Bool, true, false, cond, List, [], ◌∷◌, ◌++◌, length, get_or, slice_index, Some, eq-eqb, refl, sym, ap, ◌∙◌, arith, ⊎_elim}
 use Rattle.std.specs.Prelude.{◌==◌, ◌&&◌, ◌||◌, not, nat_le, slice_get}
 use Rattle.std.specs.Bool.{OnTrue}
-use Rattle.std.proofs.lemmas.Bool.{cases_Bool, eqb-true, false≢true}
+use Rattle.std.proofs.lemmas.Bool.{cases_Bool, eqb-true, false≢true, and_parts}
 use Rattle.std.proofs.lemmas.List.{get_or_default}
 use Rattle.std.proofs.lemmas.Option.{slice_get_within, get_or_from_slice_get}
 use Rattle.key_names.specs.declared.key.Key.{Key}
+use Rattle.key_names.specs.KeyName.{is_plain}
 use Rattle.vt_input.specs.declared.row.SeqRow.{SeqRow}
-use Rattle.vt_input.specs.Sequences.{is_prefix, is_proper_prefix, is_begun, is_known, longer, longest_from}
+use Rattle.vt_input.specs.Sequences.{is_prefix, is_proper_prefix, is_begun, is_known, longer, longest_from, begins_plain, begins_with_control, begin_with_control}
 use Rattle.vt_input.specs.Near.{IsUnlike, IsSameSearch}
 
 and-false : (a b : Bool) → b ≡ false → (a && b) ≡ false
@@ -91,3 +92,20 @@ unlike_by row x k c d held here l false e =
 -- a row that differs from the text where both have a character
 pub unlike-at : (row : SeqRow) (x : List ℕ) (k c d : ℕ) → Some c ≡ slice_get row.text k → d ≡ get_or x k d → k < length x → OnTrue (not (c == d)) (IsUnlike row x)
 unlike-at row x k c d held here l = unlike_by row x k c d held here l (c == d) refl
+
+not-plain : (a c : ℕ) → not (is_plain a) ≡ true → is_plain c ≡ true → a ≡ c → ⊥
+not-plain a c control plain same = let both = ap (λ t. not (is_plain t)) same in let other = ap not plain in false≢true (sym other ∙ sym both ∙ control)
+
+IsUnlike-plain : (text cs : List ℕ) (c : ℕ) (row : SeqRow) → row.text ≡ text → begins_with_control text ≡ true → is_plain c ≡ true → IsUnlike row (c ∷ cs)
+IsUnlike-plain [] cs c row is control plain = absurd cc
+IsUnlike-plain (a ∷ text) cs c row is control plain =
+    IsUnlike-at row (c ∷ cs) 0 (omega (arith, ap (λ (t : List ℕ). length t) is)) (omega arith)
+    (λ same. not-plain a c control plain (sym (ap (λ (t : List ℕ). slice_index t 0) is) ∙ same))
+
+-- where the text begins with a plain character all may go
+pub same-none : (rows : List SeqRow) (x : List ℕ) → begin_with_control rows ≡ true → begins_plain x ≡ true → IsSameSearch rows [] x
+same-none rows [] control plain = absurd cc
+same-none [] (c ∷ cs) control plain = same-all [] (c ∷ cs)
+same-none (row ∷ rows) (c ∷ cs) control plain =
+    let parts : (begins_with_control row.text ≡ true) × (begin_with_control rows ≡ true) = and_parts (begins_with_control row.text) (begin_with_control rows) control in
+    same-then (row ∷ rows) rows [] (c ∷ cs) (same-first row rows (c ∷ cs) (IsUnlike-plain row.text cs c row refl parts.0 plain)) (same-none rows (c ∷ cs) parts.1 plain)

@@ -3,6 +3,7 @@ use Rattle.std.specs.Prelude.{◌≡◌, ℕ, ◌+◌, Bool, true, false, List, 
 use Rattle.std.specs.List.{list_any, list_all}
 use Rattle.characters.specs.ControlCharacters.{is_parameter, is_intermediate, is_final}
 use Rattle.key_names.specs.declared.key.Key.{Key}
+use Rattle.key_names.specs.KeyName.{is_plain}
 use Rattle.vt_input.specs.declared.sequence.ControlSequence.{ControlSequence}
 use Rattle.vt_input.specs.declared.sequence.ControlSequence.TheVariants.{Unended, Whole, Broken}
 use Rattle.vt_input.specs.declared.row.SeqRow.{SeqRow}
@@ -81,8 +82,23 @@ is_sorted (row ∷ rows) = is_before_first row.text rows && is_sorted rows
 abbrev pub is_short : List SeqRow → Bool
 is_short rows = list_all (λ row. nat_le (length row.text) sequence_limit) rows
 
+-- the text begins with a character that is no control character
+abbrev pub begins_plain : List ℕ → Bool
+begins_plain [] = false
+begins_plain (c ∷ cs) = is_plain c
+
+-- the text begins with a control character
+abbrev pub begins_with_control : List ℕ → Bool
+begins_with_control [] = false
+begins_with_control (c ∷ cs) = not (is_plain c)
+
+-- each row does, so that a plain character is a key by itself
+abbrev pub begin_with_control : List SeqRow → Bool
+begin_with_control rows = list_all (λ row. begins_with_control row.text) rows
+
 -- the rows of a table of n rows
 pub record IsTable (n : ℕ) (rows : List SeqRow) : Type 0 where
   pub count : length rows ≡ n
   pub sorted : is_sorted rows ≡ true
   pub short : is_short rows ≡ true
+  pub control : begin_with_control rows ≡ true

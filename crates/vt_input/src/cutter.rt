@@ -1,5 +1,5 @@
 //! Cutting a text into key presses, in a paste and outside.
-ghost use Rattle.std.specs.Prelude.{◌≡◌, IfOk};
+ghost use Rattle.std.specs.Prelude.{◌≡◌};
 ghost use Rattle.vt_input.specs.Pressed.{opens};
 
 use crate::decide::decide;
@@ -18,8 +18,9 @@ pub struct Cutter {
 }
 
 impl Cutter {
-    ghost use Rattle.std.specs.Prelude.{◌≡◌, ℕ, ◌<◌, ◌≤◌, Bool, List, ◌∷◌, length, None, Some, IfOk, OnOk};
+    ghost use Rattle.std.specs.Prelude.{◌≡◌, ℕ, ◌<◌, ◌≤◌, Bool, true, List, ◌∷◌, length, None, Some, IfOk, OnOk};
     ghost use Rattle.vt_input.specs.declared.row.SeqRow.{SeqRow};
+    ghost use Rattle.vt_input.specs.Sequences.{begin_with_control};
     ghost use Rattle.vt_input.specs.Held.{fed_by, with_presses};
     ghost use Rattle.vt_input.specs.Taken.{given_with, StepsFront, cut_at};
 
@@ -31,6 +32,7 @@ impl Cutter {
         flush: bool,
         text: &[char],
     ) -> Result<usize, AllocError>
+        requires { begin_with_control rows.now ≡ true }
         ensures within { IfOk result (λ n. n ≤ length text.now) }
         ensures cut { IfOk result (λ n. cut_at self.new text.now n ≡ given_with rows.now flush self.old text.now) }
     {
@@ -77,6 +79,7 @@ impl Cutter {
     ) -> Result<Option<usize>, AllocError>
         requires some { 0 < length text.now }
         requires outside { self.old.paste ≡ None }
+        requires control { begin_with_control rows.now ≡ true }
         ensures { IfOk result (λ taken. StepsFront rows.now flush self.old self.new text.now taken) }
     {
         if is_opening(flush, text) {
@@ -85,7 +88,7 @@ impl Cutter {
         }
         match decide(rows, flush, text) {
             Some((key, size)) => {
-                let text = text_of(alloc, &text[..size])?;
+                let text = KeyText::from_slice(alloc, &text[..size])?;
                 self.presses.push(KeyPress { key, text })?;
                 Ok(Some(size))
             },
@@ -99,14 +102,4 @@ fn is_opening(flush: bool, text: &[char]) -> bool
     ensures { result ≡ opens flush text.now }
 {
     !flush && is_prefix(&OPENING, text)
-}
-
-fn text_of(alloc: Global, chars: &[char]) -> Result<KeyText, AllocError>
-    ensures { IfOk result (λ text. text ≡ chars.now) }
-{
-    let mut text = KeyText::new(alloc);
-    for c in chars {
-        text.push(*c)?;
-    }
-    Ok(text)
 }

@@ -1,7 +1,7 @@
 //! The key at the front of a text.
-ghost use Rattle.std.specs.Prelude.{◌≡◌, ◌<◌, length, slice_index};
+ghost use Rattle.std.specs.Prelude.{◌≡◌, ◌<◌, true, length, slice_index};
 ghost use Rattle.key_names.specs.declared.key.Key.TheVariants.{Char};
-ghost use Rattle.vt_input.specs.Sequences.{is_begun, is_known, longer, longest_from};
+ghost use Rattle.vt_input.specs.Sequences.{is_begun, is_known, longer, longest_from, begin_with_control};
 ghost use Rattle.vt_input.specs.Pressed.{is_open, decision, chosen_by};
 
 use crate::front::{OPENING, is_prefix, is_proper_prefix};
@@ -10,10 +10,11 @@ use crate::row::SeqRow;
 use crate::sequence::{ControlSequence, control_sequence_of};
 use key_names::Key;
 
-/// The key at the front of a text outside a paste, and how many characters it has. None where the text waits for more,
-/// as it never does in a flush.
+/// Returns the key at the front of a text outside a paste, and how many characters it has. None where the text waits for
+/// more, as it never does in a flush.
 pub fn decide(rows: &[SeqRow], flush: bool, text: &[char]) -> Option<(Key, usize)>
-    requires { 0 < length text.now }
+    requires some { 0 < length text.now }
+    requires control { begin_with_control rows.now ≡ true }
     ensures { result ≡ decision rows.now flush text.now }
 {
     let near = narrowed(rows, text);

@@ -5,7 +5,7 @@ ghost use Rattle.vt_input.specs.Sequences.{is_prefix, is_proper_prefix};
 /// ESC [ 200 ~, which begins a paste (xterm, bracketed paste mode).
 pub const OPENING: [char; 6] = ['\u{1B}', '[', '2', '0', '0', '~'];
 
-/// The row is a front of the text.
+/// Tells whether the row is a front of the text.
 pub fn is_prefix(row: &[char], text: &[char]) -> bool
     ensures { result ≡ is_prefix row.now text.now }
 {
@@ -20,7 +20,7 @@ pub fn is_prefix(row: &[char], text: &[char]) -> bool
     true
 }
 
-/// The text is a front of the row, and shorter.
+/// Tells whether the text is a front of the row, and shorter.
 pub fn is_proper_prefix(text: &[char], row: &[char]) -> bool
     ensures { result ≡ is_proper_prefix text.now row.now }
 {

@@ -19,7 +19,7 @@ mod tests;
 pub use keys::Keys;
 pub use parser::Parser;
 pub use row::SeqRow;
-pub use std::alloc::AllocError as NoMemory;
+pub use sequences::NoMemory;
 pub use table::{SeqTable, standard_table};
 
 // A contract can name what a parser holds only if the types of its fields are exported.

@@ -36,7 +36,7 @@ impl<const N: usize> Parser<N> {
     ghost use Rattle.vt_input.specs.Held.{fed_by};
     ghost use Rattle.vt_input.specs.Inputs.{IsSmall, decoded_after, finished, fed_bytes, parsing_after, flushed, parsing_flushed, has_waiting, stands_for};
 
-    /// A parser that has read nothing.
+    /// Returns a parser that has read nothing.
     pub fn new(alloc: Global, table: SeqTable<N>) -> Result<Parser<N>, AllocError>
         ensures fresh { IfOk result (λ parser. parser ≡ stands_for table.entry []) }
         ensures small { IfOk result (λ parser. IsSmall parser) }
@@ -49,7 +49,7 @@ impl<const N: usize> Parser<N> {
         })
     }
 
-    /// Reads a piece of bytes, and answers the key presses that it decides. After want of memory nothing is claimed of the
+    /// Reads a piece of bytes, and returns the key presses that it decides. After want of memory nothing is claimed of the
     /// parser, and it is only dropped.
     pub fn feed(&mut self, piece: &[u8]) -> Result<Keys, AllocError>
         ensures keys { IfOk result (λ keys. keys ≡ (fed_bytes self.old piece.now).presses) }
@@ -60,7 +60,7 @@ impl<const N: usize> Parser<N> {
         Ok(keys)
     }
 
-    /// Decides all that waits outside a paste, as when no more bytes came for a while; in a paste it does nothing. An
+    /// Decides all that waits outside a paste, and returns its key presses, as when no more bytes came for a while; in a paste it does nothing. An
     /// unfinished character counts as U+FFFD.
     pub fn flush(&mut self) -> Result<Keys, AllocError>
         ensures keys { IfOk result (λ keys. keys ≡ (flushed self.old).presses) }
@@ -71,7 +71,17 @@ impl<const N: usize> Parser<N> {
         Ok(keys)
     }
 
-    /// Something waits outside a paste.
+    /// Forgets all that was read, an open paste too, and takes no memory.
+    pub fn clear(&mut self)
+        ensures fresh { self.new ≡ stands_for self.old.rows [] }
+        ensures small { IsSmall self.new }
+    {
+        self.bytes.clear();
+        self.text.clear();
+        self.paste = None;
+    }
+
+    /// Tells whether something waits outside a paste.
     pub fn holds(&self) -> bool
         ensures { result ≡ has_waiting self.now }
     {

@@ -34,7 +34,7 @@ impl OpenPaste {
     ghost use Rattle.vt_input.specs.Pressed.{ending};
     ghost use Rattle.vt_input.specs.Held.{begun, add, add_all, missed, step};
 
-    /// A paste that has just begun.
+    /// Returns a paste that has just begun.
     pub fn new(alloc: Global) -> OpenPaste
         ensures { result ≡ begun }
     {
@@ -44,7 +44,7 @@ impl OpenPaste {
         }
     }
 
-    /// Reads a character, and answers whether it completes the end mark.
+    /// Reads a character, and tells whether it completes the end mark.
     pub fn step(&mut self, c: char) -> Result<bool, AllocError>
         ensures ended { IfOk result (λ ended. ended ≡ is_none (step self.old c)) }
         ensures open_still { IfOk result (λ ended. ended ≡ false → step self.old c ≡ Some self.new) }
@@ -76,7 +76,7 @@ impl OpenPaste {
         Ok(())
     }
 
-    /// The pasted text.
+    /// Returns the pasted text.
     pub fn into_text(self) -> KeyText
         ensures { result ≡ self.text.kept }
     {

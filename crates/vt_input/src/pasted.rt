@@ -17,7 +17,7 @@ impl PastedText {
     ghost use Rattle.std.specs.Prelude.{◌≡◌, [], false, OnOk};
     ghost use Rattle.vt_input.specs.Held.{add, kept_with};
 
-    /// No text.
+    /// Returns no text.
     pub fn new(alloc: Global) -> PastedText
         ensures { result ≡ record { kept = []; returned = false } }
     {

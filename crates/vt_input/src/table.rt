@@ -9,7 +9,8 @@ use key_names::{Key, KeyText};
 use std::alloc::{AllocError, Global};
 use std::marker::Model;
 
-/// N sequences of characters with their keys, in the order of their characters, none of them twice.
+/// N sequences of characters with their keys, in the order of their characters, none of them twice. Each begins with a
+/// control character.
 #[derive(Debug, Drop)]
 pub struct SeqTable<const N: usize> {
     rows: Vec<SeqRow>,
@@ -31,7 +32,7 @@ impl<const N: usize> SeqTable<N> {
     ghost use Rattle.std.specs.Prelude.{◌≡◌};
     ghost use Rattle.vt_input.specs.Sequences.{IsTable};
 
-    /// The sequences.
+    /// Returns the sequences.
     pub fn rows(&self) -> &[SeqRow]
         ensures value { result.now ≡ self.now }
         ensures table { IsTable N self.now }
@@ -41,13 +42,13 @@ impl<const N: usize> SeqTable<N> {
 }
 
 /// A row of the standard table.
-pub(crate) struct Known {
-    pub(crate) text: &'static [u8],
-    pub(crate) key: Key,
+struct Known {
+    text: &'static [u8],
+    key: Key,
 }
 
 /// The sequences of xterm's keyboard.
-pub(crate) const KNOWN: [Known; 75] = [
+const KNOWN: [Known; 75] = [
     Known {
         text: b"\x00",
         key: Key::Control('@'),
@@ -350,7 +351,7 @@ pub(crate) const KNOWN: [Known; 75] = [
     },
 ];
 
-/// The table of xterm's sequences, of 75 rows.
+/// Returns the table of xterm's sequences, of 75 rows.
 pub fn standard_table(alloc: Global) -> Result<SeqTable<75>, AllocError>
     ensures rows { IfOk result (λ table. table ≡ standard_rows) }
     ensures sorted { IfOk result (λ table. is_sorted table ≡ true) }

@@ -1,9 +1,87 @@
 //! Keys from bytes, as the table of sequences and the public standards have them.
-use crate::table::{KNOWN, Known};
 use crate::{Keys, NoMemory, Parser, standard_table};
 use key_names::{Key, KeyPress};
 use std::alloc::Global;
 use std::test::Fail;
+
+// The sequences of keys, as xterm sends them.
+const SPELLED: [(&[u8], Key); 75] = [
+    (b"\x00", Key::Control('@')),
+    (b"\x01", Key::Control('a')),
+    (b"\x02", Key::Control('b')),
+    (b"\x03", Key::Control('c')),
+    (b"\x04", Key::Control('d')),
+    (b"\x05", Key::Control('e')),
+    (b"\x06", Key::Control('f')),
+    (b"\x07", Key::Control('g')),
+    (b"\x08", Key::Control('h')),
+    (b"\x09", Key::Control('i')),
+    (b"\x0A", Key::Control('j')),
+    (b"\x0B", Key::Control('k')),
+    (b"\x0C", Key::Control('l')),
+    (b"\x0D", Key::Control('m')),
+    (b"\x0E", Key::Control('n')),
+    (b"\x0F", Key::Control('o')),
+    (b"\x10", Key::Control('p')),
+    (b"\x11", Key::Control('q')),
+    (b"\x12", Key::Control('r')),
+    (b"\x13", Key::Control('s')),
+    (b"\x14", Key::Control('t')),
+    (b"\x15", Key::Control('u')),
+    (b"\x16", Key::Control('v')),
+    (b"\x17", Key::Control('w')),
+    (b"\x18", Key::Control('x')),
+    (b"\x19", Key::Control('y')),
+    (b"\x1A", Key::Control('z')),
+    (b"\x1B", Key::Escape),
+    (b"\x1C", Key::Control('\\')),
+    (b"\x1D", Key::Control(']')),
+    (b"\x1E", Key::Control('^')),
+    (b"\x1F", Key::Control('_')),
+    (b"\x7F", Key::Control('h')),
+    (b"\x1B[A", Key::Up),
+    (b"\x1B[B", Key::Down),
+    (b"\x1B[C", Key::Right),
+    (b"\x1B[D", Key::Left),
+    (b"\x1BOA", Key::Up),
+    (b"\x1BOB", Key::Down),
+    (b"\x1BOC", Key::Right),
+    (b"\x1BOD", Key::Left),
+    (b"\x1B[H", Key::Home),
+    (b"\x1BOH", Key::Home),
+    (b"\x1B[1~", Key::Home),
+    (b"\x1B[7~", Key::Home),
+    (b"\x1B[F", Key::End),
+    (b"\x1BOF", Key::End),
+    (b"\x1B[4~", Key::End),
+    (b"\x1B[8~", Key::End),
+    (b"\x1B[2~", Key::Insert),
+    (b"\x1B[3~", Key::Delete),
+    (b"\x1B[5~", Key::PageUp),
+    (b"\x1B[6~", Key::PageDown),
+    (b"\x1BOP", Key::Function(1)),
+    (b"\x1BOQ", Key::Function(2)),
+    (b"\x1BOR", Key::Function(3)),
+    (b"\x1BOS", Key::Function(4)),
+    (b"\x1B[15~", Key::Function(5)),
+    (b"\x1B[17~", Key::Function(6)),
+    (b"\x1B[18~", Key::Function(7)),
+    (b"\x1B[19~", Key::Function(8)),
+    (b"\x1B[20~", Key::Function(9)),
+    (b"\x1B[21~", Key::Function(10)),
+    (b"\x1B[23~", Key::Function(11)),
+    (b"\x1B[24~", Key::Function(12)),
+    (b"\x1B[Z", Key::BackTab),
+    (b"\x1B[1;2A", Key::ShiftUp),
+    (b"\x1B[1;2B", Key::ShiftDown),
+    (b"\x1B[1;2C", Key::ShiftRight),
+    (b"\x1B[1;2D", Key::ShiftLeft),
+    (b"\x1B[1;5A", Key::ControlUp),
+    (b"\x1B[1;5B", Key::ControlDown),
+    (b"\x1B[1;5C", Key::ControlRight),
+    (b"\x1B[1;5D", Key::ControlLeft),
+    (b"\x1B[200~", Key::Paste),
+];
 
 fn new_parser(alloc: Global) -> Result<Parser<75>, NoMemory> {
     Parser::new(alloc, standard_table(alloc)?)
@@ -69,31 +147,29 @@ fn waits_and_is_typed(alloc: Global, bytes: &[u8]) -> Result<bool, NoMemory> {
 
 #[test]
 fn flushes_each_proper_prefix(rt: HostRuntime) -> Result<(), Fail> {
-    for known in &KNOWN {
-        for n in 1..known.text.len() {
-            assert!(rt; waits_and_is_typed(rt.alloc(), &known.text[..n])?, "at {n}");
+    for (bytes, _) in SPELLED {
+        for n in 1..bytes.len() {
+            assert!(rt; waits_and_is_typed(rt.alloc(), &bytes[..n])?, "at {n}");
         }
     }
     Ok(())
 }
 
 // The sequence is one key, but for escape, which waits, and the mark that opens a paste.
-fn is_read_at(alloc: Global, known: &Known, at: usize) -> Result<bool, NoMemory> {
-    let (first, second) = fed_in_two(alloc, known.text, at)?;
+fn is_read_at(alloc: Global, bytes: &[u8], key: Key, at: usize) -> Result<bool, NoMemory> {
+    let (first, second) = fed_in_two(alloc, bytes, at)?;
     let read = match second.get(0) {
-        Some(press) => press.key == known.key
-            && press.text.len() == known.text.len()
-            && second.len() == 1,
-        None => known.key == Key::Escape || known.key == Key::Paste,
+        Some(press) => press.key == key && press.text.len() == bytes.len() && second.len() == 1,
+        None => key == Key::Escape || key == Key::Paste,
     };
     Ok(read && first.len() == 0)
 }
 
 #[test]
 fn reads_each_sequence_at_each_cut(rt: HostRuntime) -> Result<(), Fail> {
-    for known in &KNOWN {
-        for n in 0..known.text.len() {
-            assert!(rt; is_read_at(rt.alloc(), known, n)?, "at {n}");
+    for (bytes, key) in SPELLED {
+        for n in 0..bytes.len() {
+            assert!(rt; is_read_at(rt.alloc(), bytes, key, n)?, "at {n}");
         }
     }
     Ok(())
@@ -121,6 +197,21 @@ fn ignores_unknown_sequences(rt: HostRuntime) -> Result<(), Fail> {
             ]
         )
     );
+    Ok(())
+}
+
+// Control sequences with intermediate characters: that of a cursor's shape, and that of a soft reset.
+const WITH_INTERMEDIATES: [&[u8]; 3] = [b"\x1B[1 q", b"\x1B[!p", b"\x1B[?1;2$ y"];
+
+#[test]
+fn ignores_sequences_with_intermediates(rt: HostRuntime) -> Result<(), Fail> {
+    for bytes in WITH_INTERMEDIATES {
+        assert!(rt; is_ignored(rt.alloc(), bytes)?);
+    }
+    // Behind an intermediate character no parameter stands.
+    let late = b"\x1B[ 1q";
+    let keys = new_parser(rt.alloc())?.feed(late)?;
+    assert!(rt; is_typed_after_escape(&keys, late));
     Ok(())
 }
 
@@ -244,18 +335,27 @@ fn flushes_an_unfinished_character(rt: HostRuntime) -> Result<(), Fail> {
 }
 
 #[test]
-fn copies_keys(rt: HostRuntime) -> Result<(), Fail> {
+fn clears_an_open_paste(rt: HostRuntime) -> Result<(), Fail> {
+    let mut parser = new_parser(rt.alloc())?;
+    let early = parser.feed(b"\x1B[200~ab\xE2")?.len();
+    parser.clear();
+    let keys = parser.feed(b"\x82c")?;
+    assert!(rt; early == 0 && are_chars(&keys, &['\u{FFFD}', 'c']));
+    Ok(())
+}
+
+#[test]
+fn gives_keys_away(rt: HostRuntime) -> Result<(), Fail> {
     let keys = new_parser(rt.alloc())?.feed(b"a\x1B[Z")?;
-    let copy = keys.copy()?;
+    let mut queue = keys.copy()?.into_queue();
+    assert!(rt; is_press(queue.pop_front().as_ref(), Key::Char('a'), &['a']));
     assert!(rt;
-        are_presses(
-            &copy,
-            &[
-                (Key::Char('a'), &['a']),
-                (Key::BackTab, &['\u{1B}', '[', 'Z']),
-            ]
+        is_press(
+            queue.pop_front().as_ref(),
+            Key::BackTab,
+            &['\u{1B}', '[', 'Z']
         )
     );
-    assert_eq!(rt; copy.as_slice().len(), keys.len());
+    assert!(rt; queue.is_empty());
     Ok(())
 }

@@ -1,16 +1,21 @@
-use Rattle.std.proofs.Common.{refl, arith}
+use Rattle.std.proofs.Common.{◌≡◌, ◌≢◌, ◌<◌, length, drop, sym, ap, subst, ◌∙◌, arith}
+use Rattle.key_names.specs.declared.key.KeyPress.{KeyPress}
+use Rattle.key_proc.specs.declared.held.Fired.{Fired}
+use Rattle.key_proc.specs.declared.held.Fired.TheVariants.{Wait, Nothing}
 use Rattle.key_proc.specs.Facts.{has}
-use Rattle.key_proc.proofs.Answering.{answered}
+use Rattle.key_proc.specs.Firing.{taken}
+use Rattle.key_proc.proofs.Lowering.{lowers, few-wait}
 use Rattle.key_proc.proofs.held.Held.decide.Goals as goal
 
-pub returns-in-Fire-clause-answer : goal.returns-in-Fire-clause-answer
-returns-in-Fire-clause-answer g c =
-    answered c.args.table.now (has c.args.facts.now) c.args.self.now c.args.flush _ _ c.in-Fire.ensures.decided (omega arith) c.fire.ensures.answer
+pub returns-clause-fewer : goal.returns-clause-fewer
+returns-clause-fewer g c = λ not_wait not_nothing.
+    let answer = c.decide_all-fired.ensures.answer in
+    let less = lowers c.args.table.now (has c.args.facts.now) c.args.self.now c.args.flush (λ e. not_wait (answer ∙ e)) (λ e. not_nothing (answer ∙ e)) in
+    let same = c.decide_all-fired.ensures.rest ∙ ap (λ (f : Fired). drop (taken f) c.args.self.now) answer in
+    omega (arith, less, ap length same)
 
-pub returns-in-Wait-clause-answer : goal.returns-in-Wait-clause-answer
-returns-in-Wait-clause-answer g c =
-    answered c.args.table.now (has c.args.facts.now) c.args.self.now c.args.flush _ _ c.in-Wait.ensures.decided (omega arith) (λ first more held. refl)
-
-pub returns-in-Drop-clause-answer : goal.returns-in-Drop-clause-answer
-returns-in-Drop-clause-answer g c =
-    answered c.args.table.now (has c.args.facts.now) c.args.self.now c.args.flush _ _ c.in-Drop.ensures.decided (omega arith) c.drop_first.ensures.answer
+pub returns-clause-few : goal.returns-clause-few
+returns-clause-few g c = λ waits.
+    let few = few-wait c.args.table.now (has c.args.facts.now) c.args.self.now c.args.flush (c.decide_all-fired.ensures.sized waits) (sym c.decide_all-fired.ensures.answer ∙ waits) in
+    let same = c.decide_all-fired.ensures.rest ∙ ap (λ (f : Fired). drop (taken f) c.args.self.now) waits in
+    omega (arith, few, ap length same)

@@ -12,4 +12,4 @@ returns-clause-decided g c =
     ap (λ n. take n c.keys-keys.result) c.len-count.ensures.count ∙ c.keys-keys.ensures in
     let size : length (take c.len-count.result c.keys-keys.result) ≡ c.len-count.result =
     ap length same ∙ length-map c.args.self.now (λ press. press.key) ∙ sym c.len-count.ensures.count in
-    c.decide.ensures.decided bindings _ c.find-found.ensures size ∙ ap (λ keys. decided bindings keys c.args.flush) same
+    c.decide.ensures.decided bindings _ c.find-found.ensures.found size ∙ ap (λ keys. decided bindings keys c.args.flush) same

@@ -14,8 +14,8 @@ returns-then-is_opening c =
     subst (λ (p : Paste). Takes rows c.args.flush before (record { presses = before.presses; paste = Some p }) x 6) (sym c.new.ensures)
     (Takes-mark rows c.args.flush before x c.requires.outside (sym c.if-is_opening.ensures))
 
-pub slice_bounds-text_of-end : goal.slice_bounds-text_of-end
-slice_bounds-text_of-end c =
+pub slice_bounds-from_slice-end : goal.slice_bounds-from_slice-end
+slice_bounds-from_slice-end c =
     sym (length-take-le c.in-Some.size c.args.text.now (decision-bounds c.args.rows.now c.args.flush c.args.text.now c.in-Some.key c.in-Some.size c.requires.some c.in-Some.ensures).1)
 
 pub returns-in_ok-push-in-Some : goal.returns-in_ok-push-in-Some
