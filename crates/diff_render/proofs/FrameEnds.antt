@@ -20,7 +20,7 @@ use Rattle.diff_render.specs.declared.shown.OnScreen.{OnScreen}
 use Rattle.diff_render.specs.declared.shown.OnScreen.TheVariants.{Nothing, Drawn, Resized}
 use Rattle.diff_render.specs.Canvas.{canvas_of, top_for, IsBase, On, reads, Spells, IsQuiet, question, asked, touched, Touches}
 use Rattle.diff_render.specs.Changes.{cell_at, is_changed, changed_rows}
-use Rattle.diff_render.specs.Frames.{put, Agree, Begins, rows_before, AsksWhere, has_to_ask, IsFrame}
+use Rattle.diff_render.specs.Frames.{put, Agree, Begins, rows_before, AsksWhere, has_to_ask, IsOnScreen, IsFrame}
 use Rattle.diff_render.specs.Opening.{climb, opening, asking, opening_of}
 use Rattle.diff_render.specs.Redrawn.{MayTouchRows}
 use Rattle.diff_render.specs.ScreenFields.{IsKept}
@@ -62,8 +62,8 @@ shown_base t base rows cols g good tall wide behind agree =
     )
 
 pub frame_of_shown : (size : Extent) (g : Drawing) (drawn_at : Extent) (drawing : Drawing) (done ask : Bool) (bytes : List ℕ)
-    → Turns size.rows size.cols g.grid g.row g.col drawing done bytes → IsFrame size (Drawn g drawn_at) drawing done ask bytes
-frame_of_shown size g drawn_at drawing done ask bytes turns = record {
+    → Turns size.rows size.cols g.grid g.row g.col drawing done bytes → (g ≡ drawing → done ≡ false → bytes ≡ []) → IsFrame size (Drawn g drawn_at) drawing done ask bytes
+frame_of_shown size g drawn_at drawing done ask bytes turns unchanged = record {
   shows = λ t base begins.
       let both = shown_base t base size.rows size.cols g begins.terminal begins.tall begins.wide begins.base_line.0 begins.base_line.1 in
       turns.shows t base both.0 both.1 t (shown_is t base g begins.base_line.1);
@@ -72,6 +72,7 @@ frame_of_shown size g drawn_at drawing done ask bytes turns = record {
       turns.touches (is_changed g.grid drawing.grid) (λ row col h. h) t base both.0 t (shown_is t base g begins.base_line.1);
   short = omega (arith, turns.short);
   asks = quiet_alone bytes turns.quiet;
+  unchanged = unchanged;
 }
 
 -- ---- nothing is on the screen, or its size was forgotten
@@ -163,6 +164,7 @@ changed_from_blank cols (n ∷ ns) = refl
 pub record Anew (size : Extent) (screen : OnScreen) (up : ℕ) (done ask asks : Bool) : Type 0 where
   pub few : up ≤ 999
   pub none_before : rows_before screen ≡ []
+  pub none_shown : (drawing : Drawing) → IsOnScreen screen drawing → ⊥
   pub where_asked : has_to_ask screen done ask ≡ asks
   pub at_base : (t : Term) (base : ℕ) → Begins size screen t base → t.top + (t.row - up) ≡ base
 
@@ -232,6 +234,7 @@ frame_anew size screen up drawing done ask asks rest bytes anew turns wrote =
           let there = stands t base begins in
           let back : top_for t base 1 + (base + 0 - top_for t base 1) ≡ base = omega (arith, good.behind_top, good.in_window) in
           ap (λ cs. line_of (acted t cs)) (spells_reads front controls front_reads) ∙ ap line_of there.is ∙ back));
+      unchanged = λ same still. absurd (anew.none_shown drawing same);
     } in
     subst (λ b. IsFrame size screen drawing done ask b) (sym wrote) frame
 
@@ -240,6 +243,7 @@ pub anew_nothing : (size : Extent) (done ask : Bool) → Anew size Nothing 0 don
 anew_nothing size done ask = record {
   few = omega arith;
   none_before = refl;
+  none_shown = λ drawing same. same;
   where_asked = refl;
   at_base = λ t base begins. omega (arith, begins.base_line);
 }
@@ -249,6 +253,7 @@ pub anew_resized : (size : Extent) (row : ℕ) (done ask : Bool) → row ≤ 999
 anew_resized size row done ask few = record {
   few = few;
   none_before = refl;
+  none_shown = λ drawing same. same;
   where_asked = refl;
   at_base = λ t base begins. omega (arith, begins.base_line);
 }
@@ -269,9 +274,9 @@ frame_of_resized size screen row drawing done ask asks bytes is kept wanted begi
     subst (λ s. IsFrame size s drawing done ask bytes) (sym is) (frame_anew size (Resized row) row drawing done ask asks begins.rest bytes anew begins.turns begins.wrote)
 
 pub frame_of_drawn : (size : Extent) (screen : OnScreen) (old : Drawing) (drawn_at : Extent) (drawing : Drawing) (done ask : Bool) (bytes : List ℕ) → screen ≡ Drawn old drawn_at
-    → Turns size.rows size.cols old.grid old.row old.col drawing done bytes → IsFrame size screen drawing done ask bytes
-frame_of_drawn size screen old drawn_at drawing done ask bytes is turns =
-    subst (λ s. IsFrame size s drawing done ask bytes) (sym is) (frame_of_shown size old drawn_at drawing done ask bytes turns)
+    → Turns size.rows size.cols old.grid old.row old.col drawing done bytes → (old ≡ drawing → done ≡ false → bytes ≡ []) → IsFrame size screen drawing done ask bytes
+frame_of_drawn size screen old drawn_at drawing done ask bytes is turns unchanged =
+    subst (λ s. IsFrame size s drawing done ask bytes) (sym is) (frame_of_shown size old drawn_at drawing done ask bytes turns unchanged)
 
 nothing_read : reads [] ≡ []
 nothing_read = ap (controls_from between) lossy_chars-nil
@@ -284,6 +289,7 @@ frame_of_same size screen old drawn_at drawing done ask bytes is still same none
       touches = λ t base begins. ap (λ cs. list_all (λ (place : ℕ × ℕ). is_changed old.grid old.grid place.0 place.1) (touched t base cs)) nothing_read;
       short = omega arith;
       asks = refl;
+      unchanged = λ same still. refl;
     } in
     subst (λ s. IsFrame size s drawing done ask bytes) (sym is)
     (subst (λ d. IsFrame size (Drawn old drawn_at) d done ask bytes) same

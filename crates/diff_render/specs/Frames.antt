@@ -141,9 +141,11 @@ IsOnScreen (Resized row) drawing = ⊥
 
 -- ---- all of it
 
--- what a frame is: it shows the drawing, prints only where places change, is short, and asks exactly where it has to
+-- what a frame is: it shows the drawing, prints only where places change, is short, asks exactly where it has to, and is empty where the
+-- drawing is on the screen already and the prompt goes on
 pub record IsFrame (size : Extent) (screen : OnScreen) (drawing : Drawing) (done ask : Bool) (frame : List ℕ) : Type 0 where
   pub shows : Shows size screen drawing done frame
   pub touches : TouchesChanges size screen drawing frame
   pub short : length frame ≤ 100 + 128 * changed_places size screen drawing + 16 * height_of screen drawing
   pub asks : AsksWhere (has_to_ask screen done ask) size screen frame
+  pub unchanged : IsOnScreen screen drawing → done ≡ false → frame ≡ []

@@ -1,10 +1,10 @@
 //! The bytes of a frame.
-ghost use Rattle.std.specs.Prelude.{◌≡◌, ◌++◌, ◌+◌, ◌-◌, ◌≤◌, ◌<◌, ◌*◌, ◌↔◌, [], ◌&&◌, not, true, false, IsTrue, IfOk, OnOk, OnErr, length};
+ghost use Rattle.std.specs.Prelude.{◌≡◌, ◌++◌, ◌+◌, ◌-◌, ◌≤◌, ◌<◌, ◌↔◌, [], ◌&&◌, not, true, false, IsTrue, IfOk, OnOk, OnErr, length};
 ghost use Rattle.std.specs.String.{string_bytes};
 ghost use Rattle.cell_grid.specs.Attrs.{plain};
 ghost use Rattle.cell_grid.specs.Grid.{columns};
 ghost use Rattle.diff_render.specs.Drawable.{AllRowsDrawable};
-ghost use Rattle.diff_render.specs.Frames.{AsksWhere, FitsScreen, HasCursor, IsFrame, IsOnScreen, Shows, TouchesChanges, WasDrawnAt, changed_places, has_to_ask, height_of, screen_after};
+ghost use Rattle.diff_render.specs.Frames.{FitsScreen, HasCursor, IsFrame, WasDrawnAt, screen_after};
 ghost use Rattle.diff_render.specs.ScreenFields.{IsKept};
 ghost use Rattle.diff_render.specs.Opening.{opening_of};
 ghost use Rattle.diff_render.specs.Turning.{BeginsAnew, Closes, Turns};
@@ -161,9 +161,7 @@ fn bytes_of(
     requires fits { FitsScreen size drawing.now }
     requires cursor { done ≡ false → HasCursor drawing.now }
     requires cells { AllRowsDrawable drawing.now.grid }
-    ensures frame { IfOk result (λ bytes. IsFrame size screen.now drawing.now done ask (string_bytes bytes)) }
-    ensures unchanged { IfOk result
-        (λ bytes. IsOnScreen screen.now drawing.now → done ≡ false → string_bytes bytes ≡ []) }
+    ensures { IfOk result (λ bytes. IsFrame size screen.now drawing.now done ask (string_bytes bytes)) }
 {
     match screen {
         OnScreen::Nothing => {
@@ -231,12 +229,7 @@ pub fn frame(
     requires fits { FitsScreen size drawing.now }
     requires cursor { done ≡ false → HasCursor drawing.now }
     requires cells { AllRowsDrawable drawing.now.grid }
-    ensures shows { IfOk result (λ bytes. Shows size shown.old drawing.now done bytes) }
-    ensures touches { IfOk result (λ bytes. TouchesChanges size shown.old drawing.now bytes) }
-    ensures short { IfOk result (λ bytes. length bytes
-        ≤ 100 + 128 * changed_places size shown.old drawing.now + 16 * height_of shown.old drawing.now) }
-    ensures asks { IfOk result (λ bytes. AsksWhere (has_to_ask shown.old done ask) size shown.old bytes) }
-    ensures unchanged { IfOk result (λ bytes. IsOnScreen shown.old drawing.now → done ≡ false → bytes ≡ []) }
+    ensures frame { IfOk result (IsFrame size shown.old drawing.now done ask) }
     ensures screen { OnOk result (shown.new ≡ screen_after done drawing.now size) }
     ensures err { OnErr result (shown.new ≡ shown.old) }
 {

@@ -1,7 +1,7 @@
 -- What a contract sees of a turn.
-use Rattle.std.specs.Prelude.{◌≡◌, ℕ, ◌+◌, ◌*◌, ◌≤◌, false, List, [], length, Option, Some, None, is_some}
+use Rattle.std.specs.Prelude.{◌≡◌, ℕ, false, List, Option, Some, None, is_some}
 use Rattle.cell_grid.specs.Size.{Extent}
-use Rattle.diff_render.specs.Frames.{Shows, TouchesChanges, IsOnScreen, changed_places, height_of}
+use Rattle.diff_render.specs.Frames.{IsFrame}
 use Rattle.diff_render.specs.declared.shown.OnScreen.{OnScreen}
 use Rattle.session_core.specs.declared.outcomes.Outcome.{Outcome}
 use Rattle.session_core.specs.declared.outcomes.Outcome.TheVariants.{Accepted, EndOfFile, Interrupted}
@@ -28,13 +28,9 @@ Leaves faults.Ended event old new = new ≡ old
 Leaves faults.ScreenFault event old new = new ≡ failed (next old event)
 Leaves faults.NoMemory event old new = HasFailed new
 
--- a frame that turns what is on the screen into the drawing of a state: it shows the drawing, prints only where places change, is
--- short, and is empty where the drawing is on the screen already and the prompt goes on
-pub record ShowsState (shown : OnScreen) (s : State) (frame : List ℕ) : Type 0 where
-  pub shows : Shows s.size shown (draw s) (is_some s.outcome) frame
-  pub touches : TouchesChanges s.size shown (draw s) frame
-  pub short : length frame ≤ 100 + 128 * changed_places s.size shown (draw s) + 16 * height_of shown (draw s)
-  pub unchanged : IsOnScreen shown (draw s) → is_some s.outcome ≡ false → frame ≡ []
+-- a frame, which doesn't ask, turns what is on the screen into the drawing of a state
+abbrev pub ShowsState : OnScreen → State → List ℕ → Type 0
+ShowsState shown s frame = IsFrame s.size shown (draw s) (is_some s.outcome) false frame
 
 -- the screen took one frame, which turns what was shown, at this size before, into the drawing of the state
 abbrev pub TakesState : {S : Type 0} → (S → List ℕ → S → Type 0) → S → S → Extent → OnScreen → State → Type 0

@@ -21,12 +21,11 @@ frame-requires-clause-cells g c =
 
 pub returns-clause-shows : goal.returns-clause-shows
 returns-clause-shows g c =
-    let frame = c.in-Ok-frame.ensures in
     let finished : c.is_some-done.result ≡ is_some c.drawing.new.self.outcome = search rules in (
       c.in-Ok-frame.bytes,
       search rules,
       shows_state c.drawing.new.self c.args.session.now.size c.size-size.result c.args.shown.now c.tell_size.new.shown c.in-Ok-drawing.drawing c.is_some-done.result
           c.in-Ok-frame.bytes c.size-size.ensures.size (c.in-Ok-drawing.ensures.drawn ∙ ap draw (sym c.in-Ok-drawing.ensures.same)) finished
           (c.tell_size.ensures ∙ ap (λ e. shown_at e c.size-size.result c.args.shown.now) c.size-before.ensures.size)
-          (record { shows = frame.shows; touches = frame.touches; short = frame.short; unchanged = frame.unchanged }),
+          c.in-Ok-frame.ensures.frame,
     )
