@@ -1,4 +1,5 @@
 pub mod EditLemmas
 pub mod GridLemmas
 pub mod JoinLemmas
+pub mod ReplacementWidth
 pub mod RowLemmas

@@ -1,6 +1,7 @@
 pub mod Attrs
 pub mod Cell
 pub mod CellText
+pub mod Drawable
 pub mod Drawing
 pub mod Grid
 pub mod GridFields

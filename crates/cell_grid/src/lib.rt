@@ -5,6 +5,7 @@ mod attrs;
 mod cell;
 mod cell_row;
 mod cell_text;
+mod drawable;
 mod drawing;
 mod fragment;
 mod grid;

@@ -18,7 +18,7 @@ use Rattle.term_model.specs.Controls.{Control, Print, CR, LF, CUU, CUF, CUB, EL,
 use Rattle.term_model.specs.Obeying.{width_of}
 use Rattle.diff_render.specs.declared.writer.Writer.{Writer}
 use Rattle.diff_render.specs.Canvas.{Canvas, canvas_of, Draws, Does, Spells, IsQuiet}
-use Rattle.diff_render.specs.Drawable.{AllJoining, IsCharacter, IsPen}
+use Rattle.cell_grid.specs.Drawable.{AllJoining, IsCharacter, IsPen}
 use Rattle.diff_render.specs.Spelling.{arrow, listed, numbers_of, spelled_pen, IsBytePen}
 use Rattle.diff_render.specs.Writer.{written, canvas_at, IsPlaced, Moves, Grows, Writes, Erases, ErasesBelow, Stood}
 use Rattle.diff_render.proofs.Reading.{weaker, spells_low, spells_sequence, parameter_numeric, decimal_numeric, stepped_decimal, quiet_sequence, quiet_others, listed_numeric, numbers_listed}

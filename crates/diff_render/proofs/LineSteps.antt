@@ -13,7 +13,7 @@ use Rattle.diff_render.specs.declared.writer.Writer.{Writer}
 use Rattle.diff_render.specs.Changes.{cell_at, changed_in, changed_rows}
 use Rattle.diff_render.specs.Writer.{IsPlaced, Moves, Grows, Stood}
 use Rattle.unicode_width.specs.Width.{char_width}
-use Rattle.diff_render.specs.Drawable.{AllDrawable, AllRowsDrawable}
+use Rattle.cell_grid.specs.Drawable.{AllDrawable, AllRowsDrawable}
 use Rattle.diff_render.specs.Redrawing.{MayTouch, Updates}
 use Rattle.diff_render.specs.Redrawn.{padded, line_at, MayTouchRows, GrowsTo, Reaches, RowsSoFar, Redrawn}
 use Rattle.diff_render.proofs.Moves.{same_then}

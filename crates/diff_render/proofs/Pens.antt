@@ -10,7 +10,7 @@ use Rattle.cell_grid.specs.declared.attrs.Colour.{Colour}
 use Rattle.cell_grid.specs.declared.attrs.Colour.TheVariants.{Ansi, Rgb}
 use Rattle.cell_grid.specs.Attrs.{plain}
 use Rattle.term_model.specs.Rendition.{styled, styled_past, styled_by, styled_once, direct_colour, taken_by}
-use Rattle.diff_render.specs.Drawable.{IsColour, IsPen}
+use Rattle.cell_grid.specs.Drawable.{IsColour, IsPen}
 use Rattle.diff_render.specs.Spelling.{flagged, coloured, listed, numbers_of, spelled_pen, IsByteColour, IsBytePen}
 use Rattle.diff_render.proofs.Reading.{AllSmall, listed-append}
 

@@ -13,7 +13,7 @@ use Rattle.cell_grid.specs.Row.{IsWholeAfter, IsWhole, mended, mend_end, mend_st
 use Rattle.cell_grid.proofs.RowLemmas.{length-mend_start}
 use Rattle.diff_render.specs.declared.writer.Writer.{Writer}
 use Rattle.diff_render.specs.Changes.{cell_at, one_if_not, changed_in}
-use Rattle.diff_render.specs.Drawable.{IsDrawable, AllDrawable}
+use Rattle.cell_grid.specs.Drawable.{IsDrawable, AllDrawable}
 use Rattle.diff_render.specs.Fits.{FitsAt}
 use Rattle.diff_render.specs.Writer.{IsPlaced, Stood}
 use Rattle.diff_render.specs.Redrawing.{settled, half_drawn, redone, redone_by, Redraws, RowSoFar}

@@ -1,6 +1,5 @@
 pub mod Canvas
 pub mod Changes
-pub mod Drawable
 pub mod Fits
 pub mod Frames
 pub mod Opening

@@ -3,7 +3,7 @@ ghost use Rattle.std.specs.Prelude.{◌≡◌, ◌++◌, ◌+◌, ◌-◌, ◌�
 ghost use Rattle.std.specs.String.{string_bytes};
 ghost use Rattle.cell_grid.specs.Attrs.{plain};
 ghost use Rattle.cell_grid.specs.Grid.{columns};
-ghost use Rattle.diff_render.specs.Drawable.{AllRowsDrawable};
+ghost use Rattle.cell_grid.specs.Drawable.{AllRowsDrawable};
 ghost use Rattle.diff_render.specs.Frames.{FitsScreen, HasCursor, IsFrame, WasDrawnAt, screen_after};
 ghost use Rattle.diff_render.specs.ScreenFields.{IsKept};
 ghost use Rattle.diff_render.specs.Opening.{opening_of};

@@ -3,7 +3,7 @@ ghost use Rattle.std.specs.Prelude.{◌≡◌, ◌+◌, ◌-◌, ◌≤◌, ◌<
 ghost use Rattle.cell_grid.specs.Attrs.{plain};
 ghost use Rattle.cell_grid.specs.Row.{blank_row};
 ghost use Rattle.cell_grid.specs.Grid.{IsRow, columns};
-ghost use Rattle.diff_render.specs.Drawable.{AllRowsDrawable};
+ghost use Rattle.cell_grid.specs.Drawable.{AllRowsDrawable};
 ghost use Rattle.diff_render.specs.Redrawn.{line_at, IsBlankBelow, IsDrawnRow, GrowsTo, Reaches, RowsSoFar, Redrawn};
 ghost use Rattle.diff_render.specs.Writer.{IsPlaced};
 

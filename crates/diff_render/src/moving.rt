@@ -1,7 +1,7 @@
 //! How a writer goes to a place and takes a pen with few bytes.
 ghost use Rattle.std.specs.Prelude.{◌≡◌, ◌+◌, ◌-◌, ◌<◌, ◌≤◌, OnOk};
 ghost use Rattle.cell_grid.specs.Attrs.{plain};
-ghost use Rattle.diff_render.specs.Drawable.{IsPen};
+ghost use Rattle.cell_grid.specs.Drawable.{IsPen};
 ghost use Rattle.diff_render.specs.Writer.{IsPlaced, Moves};
 
 use crate::writer::Writer;

@@ -2,7 +2,7 @@
 ghost use Rattle.std.specs.Prelude.{◌≡◌, ◌+◌, ◌-◌, ◌*◌, ◌<◌, ◌≤◌, not, OnOk, length, drop};
 ghost use Rattle.cell_grid.specs.Cell.{same_cell};
 ghost use Rattle.cell_grid.specs.Grid.{IsRow};
-ghost use Rattle.diff_render.specs.Drawable.{IsDrawable, AllDrawable};
+ghost use Rattle.cell_grid.specs.Drawable.{IsDrawable, AllDrawable};
 ghost use Rattle.diff_render.specs.Redrawing.{IsBlankFrom, Redraws, RowSoFar, Updates};
 ghost use Rattle.diff_render.specs.Writer.{IsPlaced};
 ghost use Rattle.diff_render.specs.Fits.{FitsAt};

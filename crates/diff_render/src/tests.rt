@@ -1,8 +1,7 @@
 //! Frames by their exact bytes, and many of them against the terminal model.
-ghost use Rattle.std.specs.Prelude.{◌≡◌, ◌<◌, IsTrue, IfOk, OnOk, length};
+ghost use Rattle.std.specs.Prelude.{◌<◌, OnOk};
 ghost use Rattle.cell_grid.specs.Cell.{IsLead};
-ghost use Rattle.diff_render.specs.Drawable.{AllJoining, IsCharacter, IsColour, IsDrawable, AllDrawable, AllRowsDrawable};
-ghost use Rattle.diff_render.specs.Frames.{FitsScreen, HasCursor, WasDrawnAt};
+ghost use Rattle.diff_render.specs.Frames.{WasDrawnAt};
 
 use crate::{Shown, frame};
 use cell_grid::{Attrs, Cell, CellText, Colour, Drawing, Grid, Size};
@@ -10,71 +9,6 @@ use std::alloc::Global;
 use std::test::Fail;
 use term_model::Terminal;
 use text_doc::Bytes;
-use unicode_width::UnicodeWidthChar;
-
-/// Whether each character takes no column.
-fn all_joining(text: &[char]) -> bool
-    ensures { IsTrue result → AllJoining text.now }
-{
-    for c in text {
-        if c.width() != Some(0) {
-            return false;
-        }
-    }
-    true
-}
-
-fn is_character(text: &[char], width: u8) -> bool
-    ensures { IsTrue result → IsCharacter text.now width }
-{
-    match text {
-        [] => false,
-        [first, rest @ ..] => first.width() == Some(usize::from(width)) && all_joining(rest),
-    }
-}
-
-fn is_colour(colour: Option<Colour>) -> bool
-    ensures { IsTrue result → IsColour colour }
-{
-    match colour {
-        Some(Colour::Ansi(n)) => n <= 15,
-        Some(Colour::Rgb(_, _, _)) => true,
-        None => true,
-    }
-}
-
-fn is_drawable(cell: &Cell) -> bool
-    ensures { IsTrue result → IsDrawable cell.now }
-{
-    match cell {
-        Cell::Lead { text, width, attrs } => {
-            is_character(text.as_slice(), *width) && is_colour(attrs.fg) && is_colour(attrs.bg)
-        }
-        Cell::Tail => true,
-    }
-}
-
-fn all_drawable(cells: &[Cell]) -> bool
-    ensures { IsTrue result → AllDrawable cells.now }
-{
-    for cell in cells {
-        if !is_drawable(cell) {
-            return false;
-        }
-    }
-    true
-}
-
-fn all_rows_drawable(grid: &Grid) -> bool
-    ensures { IsTrue result → AllRowsDrawable grid.now }
-{
-    for row in 0..grid.rows() {
-        if !all_drawable(grid.row(row)) {
-            return false;
-        }
-    }
-    true
-}
 
 /// The frame of a drawing, where it can be drawn.
 fn frame_of(
@@ -95,7 +29,7 @@ fn frame_of(
     if drawing.row >= grid.rows() || drawing.col >= grid.cols() {
         return Err("no cursor".into());
     }
-    if !all_rows_drawable(grid) {
+    if !grid.is_drawable() {
         return Err("not drawable".into());
     }
     let bytes = frame(alloc, shown, drawing, size, done, ask)?;

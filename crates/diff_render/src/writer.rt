@@ -3,7 +3,7 @@
 ghost use Rattle.std.specs.Prelude.{◌≡◌, ◌+◌, ◌-◌, ◌<◌, ◌≤◌, ◌⊎◌, max, OnOk};
 ghost use Rattle.cell_grid.specs.declared.cell.Cell.TheVariants.{Lead};
 ghost use Rattle.cell_grid.specs.Attrs.{plain};
-ghost use Rattle.diff_render.specs.Drawable.{IsCharacter, IsPen};
+ghost use Rattle.cell_grid.specs.Drawable.{IsCharacter, IsPen};
 ghost use Rattle.diff_render.specs.Writer.{IsPlaced, Moves, Grows, Writes, Erases, ErasesBelow};
 
 use crate::spelling::{push_arrow, push_pen, push_text};

@@ -10,13 +10,13 @@ use Rattle.cell_grid.specs.declared.cell.Cell.{Cell}
 use Rattle.cell_grid.specs.declared.cell.Cell.TheVariants.{Lead, Tail}
 use Rattle.cell_grid.specs.Cell.{joined, narrow, spread}
 use Rattle.cell_grid.specs.TextCells.{has_lead, hex_digit, is_control, joined_last, lead_of, spelled, with_char, with_next}
-use Rattle.diff_render.specs.Drawable.{AllDrawable, AllJoining, AllRowsDrawable, IsDrawable}
+use Rattle.cell_grid.specs.Drawable.{AllDrawable, AllJoining, AllRowsDrawable, IsDrawable}
 use Rattle.prompt_settings.specs.Settings.{message_of}
 use Rattle.session_core.specs.Draw.{content_of, draw, line_of, window_of}
 use Rattle.session_core.specs.State.{State}
 use Rattle.session_core.proofs.CellLemmas.{width-printable}
 use Rattle.win_view.proofs.CellLaws.{AllCells, HoldsOfAdded, cells-window_rows}
-use Rattle.prompt_run.proofs.ReplacementWidth.{replacement_width}
+use Rattle.cell_grid.proofs.ReplacementWidth.{replacement_width}
 
 -- ---- cells that can be drawn
 

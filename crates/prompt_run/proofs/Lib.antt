@@ -1,6 +1,5 @@
 pub mod DrawLemmas
 pub mod PlayLemmas
-pub mod ReplacementWidth
 pub mod ScriptLemmas
 pub mod ShowLemmas
 pub mod SourceLemmas

@@ -1,5 +1,5 @@
 use Rattle.std.proofs.Common.{arith, sym, ap, ◌∙◌, subst}
-use Rattle.diff_render.specs.Drawable.{AllDrawable}
+use Rattle.cell_grid.specs.Drawable.{AllDrawable}
 use Rattle.diff_render.specs.Redrawn.{line_at}
 use Rattle.diff_render.proofs.LineSteps.{rows_more, updates_as, line_drawable}
 use Rattle.diff_render.proofs.lines.draw_lines.Goals as goal

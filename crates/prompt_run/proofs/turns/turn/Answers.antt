@@ -1,7 +1,7 @@
 -- The drawing of a state that was settled can be shown.
 use Rattle.std.proofs.Common.{◌≡◌, ◌∙◌, ap, is_some, sym, subst, refl, rules}
 use Rattle.cell_grid.specs.declared.drawing.Drawing.{Drawing}
-use Rattle.diff_render.specs.Drawable.{AllRowsDrawable}
+use Rattle.cell_grid.specs.Drawable.{AllRowsDrawable}
 use Rattle.session_core.specs.Draw.{IsSettled, draw}
 use Rattle.session_core.specs.Next.{stepped}
 use Rattle.prompt_run.proofs.DrawLemmas.{draw_drawable}

@@ -1,4 +1,4 @@
--- Which cells a frame can draw.
+-- Which cells a terminal draws as they are: each takes its columns, and no character is lost or changed.
 use Rattle.std.specs.Prelude.{◌≡◌, ℕ, ◌≤◌, false, List, [], ◌∷◌, Option, Some, None}
 use Rattle.unicode_width.specs.Width.{char_width}
 use Rattle.cell_grid.specs.declared.attrs.Attrs.{Attrs}
