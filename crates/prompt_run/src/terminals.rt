@@ -47,7 +47,7 @@ impl Screen for TerminalScreen {
     ghost took = { λ old frame new. Obeys old.terminal frame new.terminal × Keeps old.frames frame new.frames };
 
     // nothing is claimed of a terminal that found no memory
-    ghost missed = { λ _ _. Unit {0} };
+    ghost missed = { λ _ _ _. Unit {0} };
 
     ghost faults = { λ s. s.faults };
 
