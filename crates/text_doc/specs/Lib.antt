@@ -5,3 +5,4 @@ pub mod Words
 pub mod Rows
 pub mod Finds
 pub mod Brackets
+pub mod Gap

@@ -2,21 +2,26 @@
 ghost use Rattle.std.specs.Prelude.{◌≡◌, ◌+◌, ◌<◌, ◌≤◌, ◌↔◌, ◌++◌, List, ℕ, length, take, drop, slice_index, slice_range, IfOk, IsTrue, OnOk, OnErr};
 ghost use Rattle.text_doc.specs.Rows.{row_of};
 
-use crate::{NoMemory, Text};
+use crate::gap_texts::GapText;
+use crate::{NoMemory, Text, comparing};
+use std::alloc::Global;
 use std::marker::Model;
 
 /// The characters of a document.
 #[derive(Debug, Drop)]
 pub struct IndexedText {
-    chars: Vec<char>,
+    chars: GapText,
 }
 
 impl Model for IndexedText {
+    ghost use Rattle.std.specs.Prelude.{List, ℕ, ◌≤◌, length};
+    ghost use Rattle.text_doc.specs.Gap.{joined};
+
     ghost Value = { List ℕ };
 
-    ghost view = { λ t. t.chars.items };
+    ghost view = { λ t. joined t.chars };
 
-    ghost invariant = { λ t. length t.chars.items ≤ 32768 };
+    ghost invariant = { λ t. length (joined t.chars) ≤ 32768 };
 }
 
 impl IndexedText {
@@ -26,7 +31,7 @@ impl IndexedText {
         ensures { IfOk result (λ indexed. indexed ≡ text) }
     {
         Ok(IndexedText {
-            chars: text.into_vec(),
+            chars: GapText::new(text),
         })
     }
 
@@ -34,7 +39,7 @@ impl IndexedText {
     pub fn copy(&self) -> Result<IndexedText, NoMemory>
         ensures { IfOk result (λ copy. copy ≡ self.now) }
     {
-        let chars = Vec::from_slice(*self.chars.allocator(), self.chars.as_slice())?;
+        let chars = self.chars.copy()?;
         Ok(IndexedText { chars })
     }
 
@@ -46,7 +51,7 @@ impl IndexedText {
         ensures err { OnErr result (self.new ≡ self.old) }
         ensures text_stays { OnErr result (text.new ≡ text.old) }
     {
-        text.exchange(&mut self.chars);
+        self.chars.exchange(text);
         Ok(())
     }
 
@@ -63,14 +68,14 @@ impl IndexedText {
         requires { at < length self.now }
         ensures { result ≡ slice_index self.now at }
     {
-        self.chars[at]
+        self.chars.char_at(at)
     }
 
     /// Returns the characters as two slices, which follow on each other.
     pub fn parts(&self) -> (&[char], &[char])
         ensures { result.0.now ++ result.1.now ≡ self.now }
     {
-        (self.chars.as_slice(), &[])
+        self.chars.parts()
     }
 
     /// Returns the characters from `from` up to and without `to`.
@@ -79,8 +84,8 @@ impl IndexedText {
         requires range { to ≤ length self.now }
         ensures { IfOk result (λ text. text ≡ slice_range self.now from to) }
     {
-        let chars = self.chars.as_slice();
-        let text = Text::from_slice(*self.chars.allocator(), &chars[from..to])?;
+        let (front, back) = self.chars.parts();
+        let text = part_of(self.chars.allocator(), front, back, from, to)?;
         Ok(text)
     }
 
@@ -88,50 +93,81 @@ impl IndexedText {
     pub fn equals(&self, chars: &[char]) -> bool
         ensures { IsTrue result ↔ (self.now ≡ chars.now) }
     {
-        self.chars.as_slice() == chars
+        let (front, back) = self.chars.parts();
+        comparing::is_joined(front, back, chars)
     }
 
     /// Returns whether two texts are equal.
     pub fn is_same(&self, other: &IndexedText) -> bool
         ensures { IsTrue result ↔ (self.now ≡ other.now) }
     {
-        self.chars.as_slice() == other.chars.as_slice()
+        let (front, back) = self.chars.parts();
+        let (other_front, other_back) = other.chars.parts();
+        comparing::is_same(front, back, other_front, other_back)
     }
 
     /// Returns the number of the row of this place.
-    #[tactic(auto, unfolding(crate::specs::Rows::row_of))]
+    #[tactic(auto, using(crate::proofs::RowCounts::row_counts), unfolding(crate::specs::Rows::row_of))]
     pub fn row_of(&self, place: usize) -> usize
         requires { place ≤ length self.now }
         ensures row { result ≡ row_of self.now place }
         ensures within { result ≤ length self.now }
     {
-        self.chars[..place].iter().filter(|c| **c == '\n').count()
+        let mut row = 0;
+        for at in 0..place {
+            if self.char_at(at) == '\n' {
+                row += 1;
+            }
+        }
+        row
     }
 
-    /// Puts characters at the place `at`.
+    /// Puts characters at the place `at`, where the gap goes. All room is taken before anything is moved.
     pub fn insert(&mut self, at: usize, chars: &[char]) -> Result<(), NoMemory>
         requires place { at ≤ length self.old }
         requires short { length self.old + length chars.now ≤ 32768 }
         ensures ok { OnOk result (self.new ≡ take at self.old ++ chars.now ++ drop at self.old) }
         ensures err { OnErr result (self.new ≡ self.old) }
     {
-        self.chars.extend_from_slice(chars)?;
-        let all = self.chars.as_mut_slice();
-        let behind = &mut all[at..];
-        behind.rotate_right(chars.len());
+        self.chars.make_room(chars.len())?;
+        self.chars.move_to(at);
+        self.chars.push(chars);
         Ok(())
     }
 
-    /// Deletes the characters from `from` up to and without `to`.
+    /// Deletes the characters from `from`, where the gap goes, up to and without `to`.
     pub fn delete(&mut self, from: usize, to: usize)
         requires ordered { from ≤ to }
         requires range { to ≤ length self.old }
         ensures { self.new ≡ take from self.old ++ drop to self.old }
     {
-        let kept = self.chars.len() - (to - from);
-        let chars = self.chars.as_mut_slice();
-        let behind = &mut chars[from..];
-        behind.rotate_left(to - from);
-        self.chars.truncate(kept);
+        self.chars.move_to(from);
+        self.chars.remove(to - from);
     }
+}
+
+/// Returns a part of two slices, of which the second follows on the first.
+fn part_of(
+    alloc: Global,
+    front: &[char],
+    back: &[char],
+    from: usize,
+    to: usize,
+) -> Result<Text, NoMemory>
+    requires ordered { from ≤ to }
+    requires range { to ≤ length front.now + length back.now }
+    ensures { IfOk result (λ text. text ≡ slice_range (front.now ++ back.now) from to) }
+{
+    let gap = front.len();
+    if to <= gap {
+        let text = Text::from_slice(alloc, &front[from..to])?;
+        return Ok(text);
+    }
+    if from >= gap {
+        let text = Text::from_slice(alloc, &back[from - gap..to - gap])?;
+        return Ok(text);
+    }
+    let mut text = Text::from_slice(alloc, &front[from..])?;
+    text.extend_from_slice(&back[..to - gap])?;
+    Ok(text)
 }

@@ -2,10 +2,12 @@
 #![tactic(auto)]
 
 mod brackets;
+mod comparing;
 mod completions;
 mod documents;
 mod faults;
 mod finds;
+mod gap_texts;
 mod indexed_texts;
 mod places;
 mod rows;
