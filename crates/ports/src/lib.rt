@@ -1,7 +1,6 @@
 //! What a prompt needs of the outside: bytes in and out, a terminal to enter, and a screen; and such an outside in memory.
 #![tactic(auto)]
 
-mod events;
 mod faults;
 mod screens;
 mod sinks;
@@ -10,7 +9,6 @@ mod sources;
 mod tests;
 mod ttys;
 
-pub use events::Event;
 pub use faults::{Failed, FailingCalls};
 pub use screens::{MemoryScreen, Screen};
 pub use sinks::{MemorySink, Sink};

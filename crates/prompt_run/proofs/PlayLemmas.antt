@@ -1,7 +1,7 @@
 -- How a player keeps up with a play.
 use Rattle.std.proofs.Common.{◌≡◌, ℕ, ◌≤◌, Bool, true, false, List, [], ◌∷◌, ◌++◌, length, ◌||◌, is_some, Option, Some, None, if◌then◌else◌, refl, ap, sym, ◌∙◌, subst, arith, append-nil, append_assoc}
-use Rattle.ports.specs.declared.events.Event.{Event}
-use Rattle.ports.specs.declared.events.Event.TheVariants.{Start, Piece, Resize, End}
+use Rattle.events.specs.declared.events.Event.{Event}
+use Rattle.events.specs.declared.events.Event.TheVariants.{Start, Piece, Tick, Resize, Answer, End}
 use Rattle.std.proofs.lemmas.Bool.{false≢true}
 use Rattle.std.specs.List.{concat}
 use Rattle.bstr.specs.Utf8.{lossy_chars}
@@ -44,7 +44,9 @@ ran-size s (byte ∷ bytes) = by (is_accept byte) (ran-size (settle (record s { 
 pub next-size : (s : State) (event : Event) → (next s event).size ≡ size_after event s.size
 next-size s Start = ran-size (settle (record s { kept = [] })) s.kept
 next-size s (Piece bytes) = ran-size s bytes
+next-size s (Tick moment) = refl
 next-size s (Resize size) = refl
+next-size s (Answer batch) = refl
 next-size s End = refl
 
 -- a drawing is no higher than the terminal

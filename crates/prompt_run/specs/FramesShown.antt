@@ -2,7 +2,7 @@
 use Rattle.std.specs.Prelude.{◌≡◌, ℕ, List, [], ◌∷◌}
 use Rattle.bstr.specs.Utf8.{lossy_chars}
 use Rattle.diff_render.specs.Frames.{Agree}
-use Rattle.ports.specs.declared.events.Event.{Event}
+use Rattle.events.specs.declared.events.Event.{Event}
 use Rattle.session_core.specs.Next.{next}
 use Rattle.term_model.specs.Obeying.{obeyed}
 use Rattle.term_model.specs.Term.{Term}

@@ -3,8 +3,8 @@ use Rattle.std.specs.Prelude.{ℕ, max, Bool, ◌&&◌, nat_eq, is_some, if◌th
 use Rattle.cell_grid.specs.Size.{Extent}
 use Rattle.diff_render.specs.Frames.{put, forgetting}
 use Rattle.diff_render.specs.declared.shown.OnScreen.{OnScreen}
-use Rattle.ports.specs.declared.events.Event.{Event}
-use Rattle.ports.specs.declared.events.Event.TheVariants.{Start, Piece, Resize, End}
+use Rattle.events.specs.declared.events.Event.{Event}
+use Rattle.events.specs.declared.events.Event.TheVariants.{Start, Piece, Tick, Resize, Answer, End}
 use Rattle.prompt_settings.specs.Settings.{Settings}
 use Rattle.session_core.specs.Draw.{draw}
 use Rattle.session_core.specs.Next.{next}
@@ -25,7 +25,9 @@ same_size a b = nat_eq a.rows b.rows && nat_eq a.cols b.cols
 abbrev pub size_after : Event → Extent → Extent
 size_after Start size = size
 size_after (Piece bytes) size = size
+size_after (Tick moment) size = size
 size_after (Resize new) size = new
+size_after (Answer batch) size = size
 size_after End size = size
 
 -- a terminal is resized where its size changes

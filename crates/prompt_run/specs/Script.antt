@@ -1,6 +1,6 @@
 -- What a script does as a whole: its settings, then its events and reports, and what it prints.
 use Rattle.std.specs.Prelude.{ℕ, ◌+◌, Bool, nat_lt, List, [], length, ◌∷◌, ◌++◌, flat_map, Option, Some, None, codes, decimal, encode_utf8_all}
-use Rattle.ports.specs.declared.events.Event.TheVariants as event
+use Rattle.events.specs.declared.events.Event.TheVariants as event
 use Rattle.prompt_settings.specs.Refusal.{refusal_of, with_setting}
 use Rattle.prompt_settings.specs.Settings.{Settings, no_settings}
 use Rattle.prompt_settings.specs.declared.configs.SetFault.{SetFault}

@@ -8,7 +8,7 @@ use Rattle.session_core.specs.declared.outcomes.Outcome.TheVariants.{Accepted, E
 use Rattle.session_core.specs.Draw.{draw}
 use Rattle.session_core.specs.State.{State, HasFailed, failed}
 use Rattle.session_core.specs.Next.{next}
-use Rattle.ports.specs.declared.events.Event.{Event}
+use Rattle.events.specs.declared.events.Event.{Event}
 use Rattle.prompt_run.specs.Run.{shown_at}
 use Rattle.prompt_run.specs.declared.turns.Turned.{Turned}
 use Rattle.prompt_run.specs.declared.turns.Turned.TheVariants as turned

@@ -3,8 +3,7 @@
 use super::*;
 use cell_grid::Size;
 use diff_render::Shown;
-use ports::Event;
-use session_core::{Config, Session};
+use session_core::{Config, Event, Session};
 use std::alloc::Global;
 use std::test::Fail;
 use term_model::Terminal;

@@ -8,6 +8,6 @@ mod sessions;
 mod windows;
 
 pub use outcomes::{Outcome, StepFault};
-pub use ports::Event;
+pub use events::Event;
 pub use prompt_settings::{Config, SetFault};
 pub use sessions::Session;

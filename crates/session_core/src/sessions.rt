@@ -5,7 +5,7 @@ use crate::edits::edit;
 use crate::outcomes::{Outcome, StepFault};
 use crate::windows::settled_scroll;
 use cell_grid::{CellRow, Drawing, Size};
-use ports::Event;
+use events::Event;
 use prompt_settings::Config;
 use std::alloc::Global;
 use std::marker::Model;
@@ -108,6 +108,8 @@ impl Session {
             }
             Event::Piece(bytes) => self.run_keys(bytes.as_slice())?,
             Event::Resize(size) => self.size = size,
+            // no setting asks for the time or for answers yet
+            Event::Tick(_) | Event::Answer(_) => {}
             Event::End => self.outcome = Some(Outcome::EndOfFile),
         }
         self.settle();

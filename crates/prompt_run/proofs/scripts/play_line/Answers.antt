@@ -1,7 +1,7 @@
 -- Each line leads to the play that it says.
 use Rattle.std.proofs.Common.{◌≡◌, true, None, Some, if◌then◌else◌, ap, refl, rules}
 use Rattle.std.specs.List.{list_all}
-use Rattle.ports.specs.declared.events.Event.TheVariants as event
+use Rattle.events.specs.declared.events.Event.TheVariants as event
 use Rattle.script_lines.specs.ScriptLine.{script_line}
 use Rattle.script_lines.specs.declared.script_line.ScriptLine.TheVariants as line
 use Rattle.prompt_run.specs.Play.{done, is_key, reporting}
