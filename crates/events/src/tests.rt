@@ -72,7 +72,10 @@ fn inbox(rt: HostRuntime) -> Result<(), Fail> {
         let mut call = 0;
         for wanted in shapes {
             if call == failing {
-                assert!(rt; matches!(inbox.next(), Err(InboxFault::Failed)), "call {call}");
+                assert!(rt;
+                    matches!(inbox.next(), Err(InboxFault::Failed)),
+                    "call {call}"
+                );
                 call += 1;
             }
             let event = inbox.next()?;

@@ -7,7 +7,7 @@ mod outcomes;
 mod sessions;
 mod windows;
 
-pub use outcomes::{Outcome, StepFault};
 pub use events::Event;
+pub use outcomes::{Outcome, StepFault};
 pub use prompt_settings::{Config, SetFault};
 pub use sessions::Session;
