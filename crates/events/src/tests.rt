@@ -69,18 +69,19 @@ fn inbox(rt: HostRuntime) -> Result<(), Fail> {
     ];
     for failing in 0..9 {
         let mut inbox = MemoryInbox::new(events(rt.alloc())?, failing_at(rt.alloc(), failing)?);
-        let mut call = 0;
-        for wanted in shapes {
-            if call == failing {
+        for (place, wanted) in shapes.into_iter().enumerate() {
+            if place as u64 == failing {
                 assert!(rt;
                     matches!(inbox.next(), Err(InboxFault::Failed)),
-                    "call {call}"
+                    "at {place}"
                 );
-                call += 1;
             }
             let event = inbox.next()?;
-            assert_eq!(rt; shape(&event), wanted, "call {call} where {failing} fails");
-            call += 1;
+            assert_eq!(rt;
+                shape(&event),
+                wanted,
+                "at {place} where call {failing} fails"
+            );
         }
         assert_eq!(rt; inbox.given().len(), 6);
         assert_eq!(rt; inbox.ends(), 2);
