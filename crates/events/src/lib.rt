@@ -5,6 +5,8 @@
 mod events;
 mod inboxes;
 mod jobs;
+#[cfg(test)]
+mod lent_tests;
 mod memory_inboxes;
 mod memory_jobs;
 #[cfg(test)]
