@@ -6,8 +6,8 @@ use Rattle.events.specs.declared.events.Event.TheVariants.{End}
 use Rattle.events.specs.declared.inboxes.InboxFault.{InboxFault}
 use Rattle.events.specs.declared.inboxes.InboxFault.TheVariants.{Failed, NoMemory}
 
--- the events that it gave and those that are left of what it was made with, how often it gave the end of the input behind
--- them, and how many of its calls failed
+-- the events that it gave and those that are left of what it was made with, how often it gave the end of the input
+-- behind them, and how many of its calls failed
 pub record Supplied : Type 0 where
   pub given : List Event
   pub left : List Event

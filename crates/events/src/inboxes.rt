@@ -44,8 +44,8 @@ impl From<NoMemory> for InboxFault {
 
 /// Where events come from, one after the other.
 pub trait Inbox {
-    // What one call does to the inbox, by what it answers. So a list of answers tells what a run of calls did, and an inbox
-    // that only borrows where its events come from can give its caller back what it borrowed, with what was taken from it.
+    // What one call does to the inbox, by what it answers. So a list of answers tells what a run of calls did, and an
+    // inbox that only borrows where its events come from can give its lender that back, with what was taken from it.
     ghost heard: { Self → Result Event InboxFault → Self → Type 0 };
 
     ghost faults: { Self → ℕ };

@@ -14,9 +14,11 @@ pub trait Jobs {
 
     ghost faults: { Self → ℕ };
 
-    /// Makes this request the one that is wanted of its kind, or none. The faults are counted by those that find no memory.
+    /// Makes this request the one that is wanted of this kind, or none. The faults that are counted are the calls that
+    /// found no memory.
     fn want(&mut self, kind: Kind, request: Option<&Request>) -> Result<(), NoMemory>
-        ensures wanted { OnOk result (wanted self.new ≡ option_map (with_wanted kind (option_copied request.entry)) (wanted self.old)) }
+        ensures wanted { OnOk result
+            (wanted self.new ≡ option_map (with_wanted kind (option_copied request.entry)) (wanted self.old)) }
         ensures same { OnErr result (wanted self.new ≡ wanted self.old) }
         ensures counted { faults self.new ≡ (if is_ok result then faults self.old else counted (faults self.old)) };
 }

@@ -26,7 +26,8 @@ impl<'a> LentInbox<'a> {
 }
 
 impl<'a> Inbox for LentInbox<'a> {
-    ghost heard = { λ old answer new. (new.inbox.ghost_name ≡ old.inbox.ghost_name) × Gives old.inbox.now answer new.inbox.now };
+    ghost heard = { λ old answer new. (new.inbox.ghost_name ≡ old.inbox.ghost_name)
+        × Gives old.inbox.now answer new.inbox.now };
 
     ghost faults = { λ i. i.inbox.now.faults };
 
@@ -49,7 +50,8 @@ fn take<I: Inbox>(inbox: &mut I, count: u32)
 /// Takes as many events of a borrowed inbox, which is still borrowed.
 fn take_lent(inbox: &mut LentInbox<'_>, count: u32)
     ensures same_reference { inbox.new.inbox.ghost_name ≡ inbox.old.inbox.ghost_name }
-    ensures taken { (answers : List (Result Event InboxFault)) × Chain Gives inbox.old.inbox.now answers inbox.new.inbox.now }
+    ensures taken { (answers : List (Result Event InboxFault))
+        × Chain Gives inbox.old.inbox.now answers inbox.new.inbox.now }
 {
     take(inbox, count);
 }

@@ -1,5 +1,5 @@
-//! What comes to a session and where it comes from: events, inboxes that give them, and jobs that are told which answers are
-//! wanted.
+//! What comes to a session and where it comes from: events, inboxes that give them, and jobs that are told which
+//! answers are wanted.
 #![tactic(auto)]
 
 mod events;

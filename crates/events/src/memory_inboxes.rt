@@ -7,7 +7,8 @@ use crate::inboxes::{Inbox, InboxFault};
 use ports::FailingCalls;
 use std::marker::Model;
 
-/// An inbox that gives copies of the events that it was made with, and behind the last one the end of the input for ever.
+/// An inbox that gives copies of the events that it was made with, and behind the last one the end of the input for
+/// ever.
 #[derive(Debug, Drop)]
 pub struct MemoryInbox {
     events: Vec<Event>,
