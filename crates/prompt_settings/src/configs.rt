@@ -1,4 +1,4 @@
-// The settings, and how they are set by name.
+//! The settings, and how they are set by name.
 ghost use Rattle.std.specs.Prelude.{◌≡◌, ◌↔◌, ◌≤◌, length, Err, IfOk, IsTrue, OnErr, OnOk, Some, None};
 ghost use Rattle.prompt_settings.specs.Name.{was_set};
 ghost use Rattle.prompt_settings.specs.Refusal.{refusal_of, with_setting};
@@ -61,7 +61,7 @@ impl Model for Config {
 }
 
 impl Config {
-    /// The settings where none was set.
+    /// Returns the settings where none was set.
     pub fn new(_alloc: Global) -> Result<Config, NoMemory>
         ensures { IfOk result (λ config. config ≡ no_settings) }
     {
@@ -78,7 +78,8 @@ impl Config {
     ///
     /// # Errors
     ///
-    /// The first of `UnknownName`, `Repeated` and `BadValue` that is there. After each error the settings are as before.
+    /// The first of `UnknownName`, `Repeated` and `BadValue` that is there. After each error the settings are as
+    /// before.
     pub fn set(&mut self, name: &str, value: &Text) -> Result<(), SetFault>
         ensures unknown_name { (result ≡ Err SetFault.UnknownName)
             ↔ (refusal_of self.old name.now value.now ≡ Some SetFault.UnknownName) }
@@ -116,7 +117,7 @@ impl Config {
         Ok(())
     }
 
-    /// Whether the setting has a value.
+    /// Tells whether the setting has a value.
     fn was_set(&self, setting: Setting) -> bool
         ensures { result ≡ was_set setting self.now }
     {
@@ -126,7 +127,7 @@ impl Config {
         }
     }
 
-    /// The text before the first line that is typed: the message that was set, or `> `.
+    /// Returns the text before the first line that is typed: the message that was set, or `> `.
     pub fn message(&self) -> &[char]
         ensures message { result.now ≡ message_of self.now }
         ensures short { length result.now ≤ 200 }
@@ -137,14 +138,14 @@ impl Config {
         }
     }
 
-    /// How many lines a run accepts before it ends. No setting changes it yet.
+    /// Returns how many lines a run accepts before it ends. No setting changes it yet.
     pub fn repeat(&self) -> u32
         ensures { result ≡ 1 }
     {
         1
     }
 
-    /// The size of the terminal that was set.
+    /// Returns the size of the terminal that was set.
     pub fn size(&self) -> Option<Size>
         ensures { result ≡ self.now.size }
     {

@@ -1,4 +1,4 @@
-// The names of settings.
+//! The names of settings.
 ghost use Rattle.std.specs.Prelude.{◌≡◌};
 ghost use Rattle.prompt_settings.specs.Name.{setting_named};
 
@@ -11,7 +11,7 @@ pub enum Setting {
     Size,
 }
 
-/// The setting that has this name.
+/// Returns the setting that has this name.
 pub(crate) fn setting_named(name: &str) -> Option<Setting>
     ensures { result ≡ setting_named name.now }
 {

@@ -1,12 +1,12 @@
-// Sizes as they are written in settings and in scripts.
+//! Sizes as they are written in settings and in scripts.
 ghost use Rattle.std.specs.Prelude.{◌≡◌, ◌==◌, position};
 ghost use Rattle.prompt_settings.specs.Size.{size_of};
 
 use crate::numbers::read_number;
 use cell_grid::Size;
 
-/// The size that is written as this text: its rows, the separator and its columns, in decimal without leading zeros.
-/// There is none where a screen can't have so many rows or columns.
+/// Returns the size that is written as this text: its rows, the separator and its columns, in decimal without leading
+/// zeros. There is none where a screen can't have so many rows or columns.
 ///
 /// The separator is meant to be no digit: then each size is read from the text that it is written as.
 pub fn read_size(text: &[char], separator: char) -> Option<Size>
@@ -18,7 +18,7 @@ pub fn read_size(text: &[char], separator: char) -> Option<Size>
     Size::new(rows as u32, cols as u32)
 }
 
-/// The first place of the character.
+/// Returns the first place of the character.
 fn place_of(text: &[char], wanted: char) -> Option<usize>
     ensures { result ≡ position (λ c. c == wanted) text.now }
 {

@@ -1,3 +1,4 @@
+//! Values that are set and refused, sizes that are read, and the sentences of faults.
 use crate::{Config, SetFault, read_size};
 use std::test::Fail;
 use text_doc::Text;
@@ -88,6 +89,21 @@ fn reads_sizes(rt: HostRuntime) -> Result<(), Fail> {
             *answer,
             "{words}"
         );
+    }
+    Ok(())
+}
+
+#[test]
+fn tells_faults(rt: HostRuntime) -> Result<(), Fail> {
+    let sentences = [
+        (SetFault::UnknownName, "no setting has this name"),
+        (SetFault::Repeated, "the setting was set before"),
+        (SetFault::BadValue, "the setting may not have this value"),
+        (SetFault::NoMemory, "no memory for the setting"),
+    ];
+    for (fault, sentence) in sentences {
+        let told = format!(in rt.alloc(); "{fault}")?;
+        assert_eq!(rt; told.as_str(), sentence);
     }
     Ok(())
 }

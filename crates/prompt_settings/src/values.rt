@@ -1,4 +1,4 @@
-// The values that settings may have.
+//! The values that settings may have.
 ghost use Rattle.std.specs.Prelude.{◌≡◌, not};
 ghost use Rattle.std.specs.List.{list_all};
 ghost use Rattle.cell_grid.specs.TextCells.{is_control};
@@ -13,7 +13,7 @@ use text_doc::Text;
 /// The most characters of a message.
 const MAX_MESSAGE: usize = 200;
 
-/// Whether the setting may have this value.
+/// Tells whether the setting may have this value.
 pub(crate) fn is_value(setting: Setting, value: &Text) -> bool
     ensures { result ≡ is_value setting value.now }
 {
@@ -23,28 +23,28 @@ pub(crate) fn is_value(setting: Setting, value: &Text) -> bool
     }
 }
 
-/// The size of a terminal as it is set.
+/// Returns the size of a terminal that is written so in a setting.
 pub(crate) fn size_value(value: &Text) -> Option<Size>
     ensures { result ≡ size_of 120 value.now }
 {
     read_size(value.as_slice(), 'x')
 }
 
-/// Whether there are few enough characters, none of them a control character.
+/// Tells whether there are few enough characters, none of them a control character.
 fn is_short_line(text: &[char]) -> bool
     ensures { result ≡ is_short_line text.now }
 {
     text.len() <= MAX_MESSAGE && has_no_control(text)
 }
 
-/// Whether no character is a control character.
+/// Tells whether no character is a control character.
 fn has_no_control(text: &[char]) -> bool
     ensures { result ≡ list_all (λ c. not (is_control c)) text.now }
 {
     text.iter().all(|c| !is_control(*c))
 }
 
-/// Whether the character is one of Unicode's control characters.
+/// Tells whether the character is one of Unicode's control characters.
 fn is_control(c: char) -> bool
     ensures { result ≡ is_control c }
 {

@@ -1,4 +1,4 @@
-// Where the lines of a script end.
+//! Where the lines of a script end.
 ghost use Rattle.std.specs.Prelude.{◌≡◌, ◌<◌, ◌∷◌, length};
 ghost use Rattle.script_lines.specs.Lines.{lines_of};
 

@@ -1,4 +1,4 @@
-// The names in `set` lines.
+//! The names in `set` lines.
 use std::marker::Model;
 
 /// What stands for a name in a `set` line: UTF-8 without a space.
@@ -18,14 +18,14 @@ impl Model for Name {
 impl Name {
     ghost use Rattle.std.specs.Prelude.{◌≡◌, string_bytes};
 
-    /// The name with these words.
+    /// Returns the name with these words.
     pub(crate) fn from_words(words: String) -> Name
         ensures { result ≡ string_bytes words }
     {
         Name { words }
     }
 
-    /// The name as a text in UTF-8.
+    /// Returns the name as a text in UTF-8.
     pub fn as_str(&self) -> &str
         ensures { result.now ≡ self.now }
     {

@@ -1,5 +1,5 @@
-// Lines of a script as what they say.
-ghost use Rattle.std.specs.Prelude.{◌≡◌, ◌==◌, IfOk, position};
+//! Lines of a script as what they say.
+ghost use Rattle.std.specs.Prelude.{◌≡◌, ◌<◌, ◌==◌, Ok, None, IfOk, length, position};
 ghost use Rattle.std.specs.Option.{option_copied};
 ghost use Rattle.prompt_settings.specs.Size.{size_of};
 ghost use Rattle.script_lines.specs.ScriptLine.{chars_in, is_piece, parts_line, piece_line, resize_line, said_by, script_line, set_line, utf8_in};
@@ -17,13 +17,15 @@ const MAX_LINE: usize = 300_000;
 /// The most bytes of a piece.
 const MAX_PIECE: usize = 65_536;
 
-/// What a line says, given without its line feed. There is nothing where it is outside the grammar.
+/// Returns what a line says, given without its line feed. There is nothing where it is outside the grammar.
 ///
-/// The grammar has the lines of `ScriptLine`, with one space between their parts and numbers in decimal without leading
-/// zeros. A name ends at the next space. Values and pieces are spelled as by `write_spelling`; a value may be empty, and is
-/// UTF-8. A line has at most 300,000 bytes. It is gone through once.
+/// The grammar has the lines of `ScriptLine`, with one space between their parts and numbers in decimal without
+/// leading zeros. A name ends at the next space. Values and pieces are spelled as by `write_spelling`; a value may be
+/// empty, and is UTF-8. A line has at most 300,000 bytes; one that has more is refused without a look at it. It is
+/// gone through once.
 pub fn read_line(alloc: Global, line: &[u8]) -> Result<Option<ScriptLine>, NoMemory>
-    ensures { IfOk result (λ said. said ≡ script_line line.now) }
+    ensures said { IfOk result (λ said. said ≡ script_line line.now) }
+    ensures past_limit { 300000 < length line.now → result ≡ Ok None }
 {
     if line.len() > MAX_LINE {
         return Ok(None);
@@ -32,7 +34,7 @@ pub fn read_line(alloc: Global, line: &[u8]) -> Result<Option<ScriptLine>, NoMem
     Ok(said)
 }
 
-/// What a line says, however long it is.
+/// Returns what a line says, however long it is.
 fn read_words(alloc: Global, line: &[u8]) -> Result<Option<ScriptLine>, NoMemory>
     ensures { IfOk result (λ said. said ≡ said_by line.now) }
 {
@@ -46,7 +48,7 @@ fn read_words(alloc: Global, line: &[u8]) -> Result<Option<ScriptLine>, NoMemory
     Ok(said)
 }
 
-/// What a line says whose first word has parts behind it.
+/// Returns what a line says whose first word has parts behind it.
 fn read_parts(alloc: Global, line: &[u8]) -> Result<Option<ScriptLine>, NoMemory>
     ensures { IfOk result (λ said. said ≡ parts_line line.now) }
 {
@@ -65,7 +67,7 @@ fn read_parts(alloc: Global, line: &[u8]) -> Result<Option<ScriptLine>, NoMemory
     Ok(None)
 }
 
-/// What stands behind `set `: a name, a space and the spelling of a value.
+/// Reads what stands behind `set `: a name, a space and the spelling of a value.
 fn read_set(alloc: Global, text: &[u8]) -> Result<Option<ScriptLine>, NoMemory>
     ensures { IfOk result (λ said. said ≡ set_line text.now) }
 {
@@ -79,14 +81,14 @@ fn read_set(alloc: Global, text: &[u8]) -> Result<Option<ScriptLine>, NoMemory>
     Ok(value.map(|value| ScriptLine::Set { name, value }))
 }
 
-/// The place of the first space.
+/// Returns the place of the first space.
 fn first_space(text: &[u8]) -> Option<usize>
     ensures { result ≡ position (λ byte. byte == 32) text.now }
 {
     text.iter().position(|byte| *byte == b' ')
 }
 
-/// The name with these bytes, where they are UTF-8.
+/// Returns the name with these bytes, where they are UTF-8.
 fn read_name(alloc: Global, bytes: &[u8]) -> Result<Option<Name>, NoMemory>
     ensures { IfOk result (λ name. name ≡ utf8_in bytes.now) }
 {
@@ -97,7 +99,7 @@ fn read_name(alloc: Global, bytes: &[u8]) -> Result<Option<Name>, NoMemory>
     Ok(Some(Name::from_words(words)))
 }
 
-/// The words that the bytes are in UTF-8.
+/// Returns the words that the bytes are in UTF-8.
 fn utf8_words(bytes: &[u8]) -> Option<&str>
     ensures { option_copied result ≡ utf8_in bytes.now }
 {
@@ -107,7 +109,7 @@ fn utf8_words(bytes: &[u8]) -> Option<&str>
     }
 }
 
-/// The text that is spelled so, where it is UTF-8.
+/// Returns the text that is spelled so, where it is UTF-8.
 fn read_value(alloc: Global, spelled: &[u8]) -> Result<Option<Text>, NoMemory>
     ensures { IfOk result (λ text. text ≡ chars_in (unspelled spelled.now)) }
 {
@@ -117,7 +119,7 @@ fn read_value(alloc: Global, spelled: &[u8]) -> Result<Option<Text>, NoMemory>
     }
 }
 
-/// The text of these bytes, where they are UTF-8.
+/// Returns the text of these bytes, where they are UTF-8.
 fn read_text(alloc: Global, bytes: &[u8]) -> Result<Option<Text>, NoMemory>
     ensures { IfOk result (λ text. text ≡ chars_in (Some bytes.now)) }
 {
@@ -128,7 +130,7 @@ fn read_text(alloc: Global, bytes: &[u8]) -> Result<Option<Text>, NoMemory>
     Ok(Some(text))
 }
 
-/// What stands behind `piece `: the spelling of its bytes.
+/// Reads what stands behind `piece `: the spelling of its bytes.
 fn read_piece(alloc: Global, spelled: &[u8]) -> Result<Option<ScriptLine>, NoMemory>
     ensures { IfOk result (λ said. said ≡ piece_line (unspelled spelled.now)) }
 {
@@ -140,14 +142,14 @@ fn read_piece(alloc: Global, spelled: &[u8]) -> Result<Option<ScriptLine>, NoMem
     }
 }
 
-/// Whether there is a byte, and there are not too many for one piece.
+/// Tells whether there is a byte, and there are not too many for one piece.
 fn is_piece(bytes: &[u8]) -> bool
     ensures { result ≡ is_piece bytes.now }
 {
     !bytes.is_empty() && bytes.len() <= MAX_PIECE
 }
 
-/// What stands behind `resize `: rows, a space and columns.
+/// Reads what stands behind `resize `: rows, a space and columns.
 fn read_resize(alloc: Global, text: &[u8]) -> Result<Option<ScriptLine>, NoMemory>
     ensures { IfOk result (λ said. said ≡ resize_line (size_of 32 text.now)) }
 {
@@ -155,7 +157,7 @@ fn read_resize(alloc: Global, text: &[u8]) -> Result<Option<ScriptLine>, NoMemor
     Ok(read_size(&chars, ' ').map(ScriptLine::Resize))
 }
 
-/// The characters whose codes the bytes are.
+/// Returns the characters whose codes the bytes are.
 fn chars_of(alloc: Global, bytes: &[u8]) -> Result<Vec<char>, NoMemory>
     ensures { IfOk result (λ chars. chars.items ≡ bytes.now) }
 {

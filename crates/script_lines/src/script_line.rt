@@ -1,4 +1,4 @@
-// What a line of a script can say.
+//! What a line of a script can say.
 use crate::Name;
 use cell_grid::Size;
 use text_doc::{Bytes, Text};

@@ -1,5 +1,4 @@
-// How bytes are spelled in a script and in a report: printable ASCII stands for itself, `\` is `\\`, and every other
-// byte is `\x` and two digits of `0-9a-f`.
+//! The spelling of bytes: printable ASCII stands for itself, `\` is `\\`, all else is `\x` and two digits of `0-9a-f`.
 ghost use Rattle.std.specs.Prelude.{◌≡◌, ◌<◌, ◌++◌, IfOk, OnOk, IfSome, option_map};
 ghost use Rattle.script_lines.specs.Spelling.{is_plain, digit_value, hex_byte, hex_digit, spelled, spelling, step_of, unspelled};
 
@@ -30,7 +29,7 @@ enum Step {
     Refused,
 }
 
-/// The bytes that a text spells, or `None` where it is no spelling: each byte has exactly one.
+/// Returns the bytes that a text spells, or `None` where it is no spelling: each byte has exactly one.
 pub fn read_spelling(alloc: Global, text: &[u8]) -> Result<Option<Vec<u8>>, NoMemory>
     ensures bytes { IfOk result (λ bytes. option_map (λ b. b.items) bytes ≡ unspelled text.now) }
 {
@@ -75,14 +74,14 @@ fn read_char(reading: Reading, c: u8) -> Step
     }
 }
 
-/// Whether the byte stands for itself.
+/// Tells whether the byte stands for itself.
 fn stands_for_itself(byte: u8) -> bool
     ensures { result ≡ is_plain byte }
 {
     matches!(byte, b' '..=b'~') && byte != b'\\'
 }
 
-/// The value of a digit of `0-9a-f`.
+/// Returns the value of a digit of `0-9a-f`.
 fn value_of_digit(digit: u8) -> Option<u8>
     ensures value { result ≡ digit_value digit }
     ensures small { IfSome result (λ value. value < 16) }
@@ -94,7 +93,7 @@ fn value_of_digit(digit: u8) -> Option<u8>
     }
 }
 
-/// The byte of two digits, where both are digits and it has no shorter spelling.
+/// Returns the byte of two digits, where both are digits and it has no shorter spelling.
 fn byte_of_digits(high: u8, low: u8) -> Option<u8>
     ensures { result ≡ hex_byte (digit_value high) (digit_value low) }
 {
@@ -133,7 +132,7 @@ fn push_byte(out: &mut Vec<u8>, byte: u8) -> Result<(), NoMemory>
     Ok(())
 }
 
-/// The digit of a number below 16.
+/// Returns the digit of a number below 16.
 fn digit_of(value: u8) -> u8
     requires { value < 16 }
     ensures { result ≡ hex_digit value }

@@ -1,10 +1,11 @@
+//! Lines of each form, lines outside the grammar, and spellings.
 use crate::{ScriptLine, cut_line, read_line, read_spelling, write_spelling};
 use std::alloc::Global;
 use std::process::Abort;
 use std::test::Fail;
 use text_doc::{Bytes, NoMemory};
 
-// What a line says, as its kind and its parts.
+/// Returns what a line says, as its kind and its parts.
 fn told(alloc: Global, said: ScriptLine) -> Result<String, NoMemory> {
     match said {
         ScriptLine::Set { name, value } => {
@@ -21,7 +22,7 @@ fn told(alloc: Global, said: ScriptLine) -> Result<String, NoMemory> {
     }
 }
 
-// Expects that each of the lines says what stands beside it, or nothing where that is `none`.
+/// Expects that each of the lines says what stands beside it, or nothing where that is `none`.
 fn expect_lines(rt: &impl Abort, alloc: Global, cases: &[(&[u8], &str)]) -> Result<(), Fail> {
     for (line, expected) in cases {
         match read_line(alloc, line)? {
