@@ -5,11 +5,12 @@ use Rattle.std.proofs.Math.Nat.{mul-le-mul_left}
 use Rattle.std.proofs.Math.Seq.{take-add, take-append_seam}
 use Rattle.std.proofs.lemmas.List.{drop-drop, drop_at, get_or-append-add, set-append_right, length-replicate, replicate-append-replicate}
 use Rattle.cell_grid.specs.declared.cell.Cell.{Cell}
+use Rattle.cell_grid.specs.Attrs.{plain}
 use Rattle.cell_grid.specs.Cell.{blank}
 use Rattle.cell_grid.specs.Row.{IsWhole, blank_row, laid_at}
 use Rattle.cell_grid.specs.Grid.{IsRow, AllRows, row_at, columns, blank_rows, laid_over, blitted}
 use Rattle.cell_grid.specs.GridFields.{cut_in_rows, IsBlock}
-use Rattle.cell_grid.proofs.RowLemmas.{length-laid_at, whole-laid_at}
+use Rattle.cell_grid.proofs.RowLemmas.{length-laid_at, whole-laid_at, whole-narrow}
 
 -- ---- rows of one length
 
@@ -139,12 +140,8 @@ laid_in rows cols row col cells part h within fits whole =
 
 -- ---- blanks
 
-whole-blank_row : (cols : ℕ) → IsWhole (blank_row cols)
-whole-blank_row zero = tt
-whole-blank_row (suc cols) = inl (refl, whole-blank_row cols)
-
 pub row-blank_row : (cols : ℕ) → IsRow cols (blank_row cols)
-row-blank_row cols = record { long = length-replicate cols blank; whole = whole-blank_row cols }
+row-blank_row cols = record { long = length-replicate cols blank; whole = whole-narrow cols 32 plain }
 
 pub AllRows-blank_rows : (rows cols : ℕ) → AllRows cols (blank_rows rows cols)
 AllRows-blank_rows zero cols = tt

@@ -1,10 +1,10 @@
 -- Rows that are cut, joined and written stay whole and as long as they were.
 use Prim.Native.Nat.{zero, suc}
-use Rattle.std.proofs.Common.{◌≡◌, ℕ, ◌+◌, ◌≤◌, ◌⊎◌, inl, inr, Bool, true, false, List, [], ◌∷◌, ◌++◌, length, take, drop, refl, ap, arith, length-append, length-drop, length-take-le}
+use Rattle.std.proofs.Common.{◌≡◌, ℕ, ◌+◌, ◌≤◌, ◌⊎◌, inl, inr, Bool, true, false, List, [], ◌∷◌, ◌++◌, length, take, drop, replicate, refl, ap, arith, length-append, length-drop, length-take-le}
 use Rattle.cell_grid.specs.declared.attrs.Attrs.{Attrs}
 use Rattle.cell_grid.specs.declared.cell.Cell.{Cell}
 use Rattle.cell_grid.specs.declared.cell.Cell.TheVariants.{Lead, Tail}
-use Rattle.cell_grid.specs.Cell.{IsLead, spread}
+use Rattle.cell_grid.specs.Cell.{IsLead, narrow, spread}
 use Rattle.cell_grid.specs.Row.{IsWholeAfter, IsWhole, mended, mend_end, mend_start, laid_at, put_at}
 
 -- ---- lengths
@@ -90,6 +90,10 @@ whole-laid_at row at cells h k =
     whole-append false (mend_end (take at row) ++ cells) (mend_start (drop (at + length cells) row))
     (whole-append false (mend_end (take at row)) cells (front-whole at row h) k)
     (back-whole (at + length cells) row h)
+
+pub whole-narrow : (cols c : ℕ) (attrs : Attrs) → IsWhole (replicate cols (narrow c attrs))
+whole-narrow zero c attrs = tt
+whole-narrow (suc cols) c attrs = inl (refl, whole-narrow cols c attrs)
 
 pub whole-spread : (lead : Cell) → IsLead lead → IsWhole (spread lead)
 whole-spread (Lead text width attrs) h = elim h [ inl e ↦ rw e (inl (refl, tt)) | inr e ↦ rw e (inr (refl, tt)) ]

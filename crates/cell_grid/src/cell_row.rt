@@ -4,7 +4,7 @@ ghost use Rattle.cell_grid.specs.Row.{IsWhole, put_at};
 ghost use Rattle.cell_grid.specs.TextCells.{joined_last};
 
 use crate::row_edits::lay_cells;
-use crate::{Cell, NoMemory};
+use crate::{Attrs, Cell, NoMemory};
 use sequences::{Item, Sequence};
 use std::alloc::Global;
 use std::marker::Model;
@@ -31,8 +31,8 @@ impl Model for CellRow {
 }
 
 impl CellRow {
-    ghost use Rattle.std.specs.Prelude.{◌≡◌, ◌<◌, ◌↔◌, ◌+◌, ◌≤◌, ◌++◌, IsTrue, IfOk, OnOk, OnErr, Some, [], length, slice_get};
-    ghost use Rattle.cell_grid.specs.Cell.{IsLead, spread};
+    ghost use Rattle.std.specs.Prelude.{◌≡◌, ◌<◌, ◌↔◌, ◌+◌, ◌≤◌, ◌++◌, IsTrue, IfOk, OnOk, OnErr, Some, [], length, replicate, slice_get};
+    ghost use Rattle.cell_grid.specs.Cell.{IsLead, narrow, spread};
     ghost use Rattle.cell_grid.specs.Row.{IsWhole, put_at};
     ghost use Rattle.cell_grid.specs.TextCells.{joined_last};
 
@@ -43,6 +43,14 @@ impl CellRow {
         CellRow {
             cells: Vec::new(alloc),
         }
+    }
+
+    /// Returns a row of so many cells of one column, each with this character.
+    pub fn filled(alloc: Global, c: char, attrs: Attrs, cols: usize) -> Result<CellRow, NoMemory>
+        ensures { IfOk result (λ row. row ≡ replicate cols (narrow c attrs)) }
+    {
+        let cells = Vec::from_elem(alloc, Cell::narrow(c, attrs), cols)?;
+        Ok(CellRow { cells })
     }
 
     /// How many cells the row has, Tails included.

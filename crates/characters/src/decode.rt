@@ -21,9 +21,9 @@ pub fn decode_into(bytes: &[u8], text: &mut Vec<char>) -> Result<usize, AllocErr
     Ok(at)
 }
 
-// The character at the front, or U+FFFD for a maximal part that is none, and the bytes it takes: none where the bytes are
-// the front of one.
-fn first_char(bytes: &[u8]) -> Option<(char, usize)>
+/// Returns the character at the front, or U+FFFD for a maximal part that is none, and the bytes it takes: none where the
+/// bytes are the front of one.
+pub fn first_char(bytes: &[u8]) -> Option<(char, usize)>
     ensures waits { IfNone result (is_unfinished bytes.now ≡ true) }
     ensures whole { OnSome result (is_unfinished bytes.now ≡ false) }
     ensures char { IfSome result (λ found. found.0 ≡ or_replacement (decoded bytes.now).char) }

@@ -8,5 +8,5 @@ pub mod laws;
 mod tests;
 
 pub use control::{is_final, is_intermediate, is_parameter};
-pub use decode::decode_into;
+pub use decode::{decode_into, first_char};
 pub use std::alloc::AllocError as NoMemory;

@@ -4,8 +4,6 @@ use Rattle.std.proofs.Common.{◌≡◌, ℕ, ◌+◌, ◌-◌, ◌<◌, ◌≤�
 use Rattle.std.specs.List.{list_all}
 use Rattle.std.proofs.lemmas.Bool.{cases_lt}
 use Rattle.std.proofs.lemmas.Bool.Decides.{nat_tests}
-use Rattle.bstr.specs.Utf8.{lossy_chars}
-use Rattle.bstr.proofs.lemmas.PieceLemmas.{lossy_chars-nil}
 use Rattle.cell_grid.specs.declared.cell.Cell.{Cell}
 use Rattle.cell_grid.specs.declared.drawing.Drawing.{Drawing}
 use Rattle.cell_grid.specs.Attrs.{plain}
@@ -13,12 +11,12 @@ use Rattle.cell_grid.specs.Cell.{same_cell}
 use Rattle.cell_grid.specs.Row.{blank_row}
 use Rattle.cell_grid.specs.Grid.{row_at}
 use Rattle.cell_grid.specs.Size.{Extent}
-use Rattle.term_model.specs.Controls.{Control, CUU, between, controls_from}
+use Rattle.term_model.specs.Controls.{Control, CUU, Ignored, between, controls_from}
 use Rattle.term_model.specs.Term.{Term, IsTerminal}
-use Rattle.term_model.specs.Obeying.{acted, forgotten, line_of, obeyed}
+use Rattle.term_model.specs.Obeying.{acted, forgotten, line_of, obeyed_bytes}
 use Rattle.diff_render.specs.declared.shown.OnScreen.{OnScreen}
 use Rattle.diff_render.specs.declared.shown.OnScreen.TheVariants.{Nothing, Drawn, Resized}
-use Rattle.diff_render.specs.Canvas.{canvas_of, top_for, IsBase, On, reads, Spells, IsQuiet, question, asked, touched, Touches}
+use Rattle.diff_render.specs.Canvas.{Canvas, canvas_of, top_for, IsBase, On, reads, Spells, IsQuiet, question, asked, touched, Touches}
 use Rattle.diff_render.specs.Changes.{cell_at, is_changed, changed_rows}
 use Rattle.diff_render.specs.Frames.{put, Agree, Begins, rows_before, AsksWhere, has_to_ask, IsOnScreen, IsFrame}
 use Rattle.diff_render.specs.Opening.{climb, opening, asking, opening_of}
@@ -72,6 +70,7 @@ frame_of_shown size g drawn_at drawing done ask bytes turns unchanged = record {
       turns.touches (is_changed g.grid drawing.grid) (λ row col h. h) t base both.0 t (shown_is t base g begins.base_line.1);
   short = omega (arith, turns.short);
   asks = quiet_alone bytes turns.quiet;
+  ends = turns.reading;
   unchanged = unchanged;
 }
 
@@ -139,9 +138,25 @@ front_on t n cols good wide =
     (subst (λ k. On t (t.top + (t.row - n)) (canvas_of (blank_row k ∷ []) 0 0 plain) (acted (climbed t n up.pending up.last) opening_controls)) wide
     (opened t n up.pending up.last good))
 
-spells_asking : (asks : Bool) → Spells (asking asks) []
-spells_asking true = spells_low question [] refl (λ rest. refl)
+-- the question has no effect that a terminal shows
+asking_controls : Bool → List Control
+asking_controls true = Ignored ∷ []
+asking_controls false = []
+
+spells_asking : (asks : Bool) → Spells (asking asks) (asking_controls asks)
+unfolding asking_controls
+spells_asking true = spells_low question (Ignored ∷ []) refl (λ rest. refl)
 spells_asking false = spells_none
+
+asking_on : (asks : Bool) (t : Term) (base : ℕ) (c : Canvas) (x : Term) → On t base c x → On t base c (acted x (asking_controls asks))
+unfolding asking_controls
+asking_on true t base c x on = record { pending = false; last = None; is = ap forgotten on.is }
+asking_on false t base c x on = on
+
+asking_touches : (ok : ℕ → ℕ → Bool) (asks : Bool) (x : Term) (base : ℕ) → Touches ok x base (asking_controls asks)
+unfolding asking_controls
+asking_touches ok true x base = refl
+asking_touches ok false x base = refl
 
 asking_length : (asks : Bool) → length (asking asks) ≤ 4
 asking_length true = omega arith
@@ -169,7 +184,7 @@ pub record Anew (size : Extent) (screen : OnScreen) (up : ℕ) (done ask asks : 
   pub at_base : (t : Term) (base : ℕ) → Begins size screen t base → t.top + (t.row - up) ≡ base
 
 asks_anew : (asks : Bool) (size : Extent) (screen : OnScreen) (front rest : List ℕ) → IsQuiet front → IsQuiet rest
-    → ((t : Term) (base : ℕ) → Begins size screen t base → line_of (obeyed t (lossy_chars front)) ≡ base)
+    → ((t : Term) (base : ℕ) → Begins size screen t base → line_of (obeyed_bytes t front) ≡ base)
     → AsksWhere asks size screen (front ++ asking asks ++ rest)
 asks_anew true size screen front rest p q on_base = record {
   before = front;
@@ -189,23 +204,26 @@ frame_anew size screen up drawing done ask asks rest bytes anew turns wrote =
     let front = climb up ++ opening in
     let head = front ++ asking asks in
     let controls = front_controls up in
+    let asked_for = asking_controls asks in
     let front_reads = front_spells up anew.few in
     let quiet_front : IsQuiet front = quiet_then (climb up) opening (quiet_climb up anew.few) quiet_opening in
-    let spells : Spells (head ++ rest) (controls ++ [] ++ reads rest) =
-    spells_then head rest (controls ++ []) (reads rest) (spells_then front (asking asks) controls [] front_reads (spells_asking asks)) turns.reading in
-    let is : reads (head ++ rest) ≡ controls ++ reads rest =
-    spells_reads (head ++ rest) (controls ++ [] ++ reads rest) spells ∙ ap (λ cs. cs ++ reads rest) (append-nil controls) in
+    let spells : Spells (head ++ rest) (controls ++ asked_for ++ reads rest) =
+    spells_then head rest (controls ++ asked_for) (reads rest) (spells_then front (asking asks) controls asked_for front_reads (spells_asking asks)) turns.reading in
+    let is : reads (head ++ rest) ≡ controls ++ asked_for ++ reads rest = spells_reads (head ++ rest) (controls ++ asked_for ++ reads rest) spells in
     let base_good = λ (t : Term) (base : ℕ) (begins : Begins size screen t base).
     subst (λ b. IsBase t b size.rows size.cols) (anew.at_base t base begins) (base_is t up size.rows size.cols begins.terminal begins.tall begins.wide) in
     let stands = λ (t : Term) (base : ℕ) (begins : Begins size screen t base).
     subst (λ b. On t b (canvas_of (blank_row size.cols ∷ []) 0 0 plain) (acted t controls)) (anew.at_base t base begins)
     (front_on t up size.cols begins.terminal begins.wide) in
+    let stands_asked = λ (t : Term) (base : ℕ) (begins : Begins size screen t base).
+    subst (On t base (canvas_of (blank_row size.cols ∷ []) 0 0 plain)) (sym (acted-append t controls asked_for))
+    (asking_on asks t base (canvas_of (blank_row size.cols ∷ []) 0 0 plain) (acted t controls) (stands t base begins)) in
     let frame : IsFrame size screen drawing done ask (head ++ rest) = record {
       shows = λ t base begins.
           let good = base_good t base begins in
           let fits : base + 1 ≤ t.top + t.rows = omega (arith, good.in_window) in
-          ap (λ cs. forgotten (acted t cs)) is ∙ ap forgotten (acted-append t controls (reads rest))
-          ∙ turns.shows t base good fits (acted t controls) (stands t base begins);
+          ap (λ cs. forgotten (acted t cs)) is ∙ ap forgotten (acted-append t (controls ++ asked_for) (reads rest))
+          ∙ turns.shows t base good fits (acted t (controls ++ asked_for)) (stands_asked t base begins);
       touches = λ t base begins.
           let good = base_good t base begins in
           let ok = is_changed (rows_before screen) drawing.grid in
@@ -213,9 +231,11 @@ frame_anew size screen up drawing done ask asks rest bytes anew turns wrote =
           subst (λ old. MayTouchRows (is_changed old drawing.grid) (blank_row size.cols ∷ []) drawing.grid) (sym anew.none_before)
           (may_from_blank (is_changed [] drawing.grid) size.cols drawing.grid (λ row col h. h)) in
           subst (λ cs. Touches ok t base cs) (sym is)
-          (touches_then ok t base controls (reads rest)
+          (touches_then ok t base (controls ++ asked_for) (reads rest)
+          (touches_then ok t base controls asked_for
           (touches_then ok t base (climb_controls up) opening_controls (climb_touches ok t base up) refl)
-          (turns.touches ok may t base good (acted t controls) (stands t base begins)));
+          (asking_touches ok asks (acted t controls) base))
+          (turns.touches ok may t base good (acted t (controls ++ asked_for)) (stands_asked t base begins)));
       short = omega (
         arith,
         turns.short,
@@ -228,6 +248,7 @@ frame_anew size screen up drawing done ask asks rest bytes anew turns wrote =
         ap length anew.none_before,
         ap (λ old. changed_rows size.cols old drawing.grid) anew.none_before,
       );
+      ends = subst (Spells (head ++ rest)) (sym is) spells;
       asks = subst (λ b. AsksWhere b size screen (head ++ rest)) (sym anew.where_asked)
           (asks_anew asks size screen front rest quiet_front turns.quiet (λ t base begins.
           let good = base_good t base begins in
@@ -279,7 +300,7 @@ frame_of_drawn size screen old drawn_at drawing done ask bytes is turns unchange
     subst (λ s. IsFrame size s drawing done ask bytes) (sym is) (frame_of_shown size old drawn_at drawing done ask bytes turns unchanged)
 
 nothing_read : reads [] ≡ []
-nothing_read = ap (controls_from between) lossy_chars-nil
+nothing_read = refl
 
 pub frame_of_same : (size : Extent) (screen : OnScreen) (old : Drawing) (drawn_at : Extent) (drawing : Drawing) (done ask : Bool) (bytes : List ℕ) → screen ≡ Drawn old drawn_at
     → done ≡ false → old ≡ drawing → bytes ≡ [] → IsFrame size screen drawing done ask bytes
@@ -289,6 +310,7 @@ frame_of_same size screen old drawn_at drawing done ask bytes is still same none
       touches = λ t base begins. ap (λ cs. list_all (λ (place : ℕ × ℕ). is_changed old.grid old.grid place.0 place.1) (touched t base cs)) nothing_read;
       short = omega arith;
       asks = refl;
+      ends = spells_none;
       unchanged = λ same still. refl;
     } in
     subst (λ s. IsFrame size s drawing done ask bytes) (sym is)

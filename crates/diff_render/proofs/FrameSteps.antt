@@ -3,7 +3,6 @@ use Rattle.std.proofs.Common.{◌≡◌, ℕ, ◌+◌, ◌-◌, ◌<◌, ◌≤�
 use Rattle.std.proofs.lemmas.Bool.{cases_lt}
 use Rattle.std.proofs.lemmas.Bool.Decides.{nat_tests}
 use Rattle.std.proofs.lemmas.List.{replicate-append-replicate}
-use Rattle.bstr.proofs.lemmas.PieceLemmas.{lossy_chars-nil}
 use Rattle.cell_grid.specs.declared.cell.Cell.{Cell}
 use Rattle.cell_grid.specs.declared.attrs.Attrs.{Attrs}
 use Rattle.cell_grid.specs.declared.drawing.Drawing.{Drawing}
@@ -25,7 +24,7 @@ use Rattle.diff_render.proofs.LineSteps.{length_padded}
 
 pub spells_reads : (bytes : List ℕ) (cs : List Control) → Spells bytes cs → reads bytes ≡ cs
 spells_reads bytes cs h =
-    ap reads (sym (append-nil bytes)) ∙ h [] ∙ ap (λ x. cs ++ controls_from between x) lossy_chars-nil ∙ append-nil cs
+    ap reads (sym (append-nil bytes)) ∙ h [] ∙ append-nil cs
 
 -- ---- blank lines behind a drawing
 

@@ -14,7 +14,8 @@ use Rattle.cell_grid.specs.Attrs.{plain}
 use Rattle.cell_grid.specs.Row.{blank_row, laid_at, put_at}
 use Rattle.cell_grid.specs.Grid.{blank_rows}
 use Rattle.term_model.specs.Parameters.{is_numeric, numbers, numbers_from}
-use Rattle.term_model.specs.Controls.{Control, Print, CR, LF, CUU, CUF, CUB, EL, ED, SGR, is_parameter, only, stepped, rendition}
+use Rattle.characters.specs.ControlCharacters.{is_parameter}
+use Rattle.term_model.specs.Controls.{Control, Print, CR, LF, CUU, CUF, CUB, EL, ED, SGR, only, stepped, rendition}
 use Rattle.term_model.specs.Obeying.{width_of}
 use Rattle.diff_render.specs.declared.writer.Writer.{Writer}
 use Rattle.diff_render.specs.Canvas.{Canvas, canvas_of, Draws, Does, Spells, IsQuiet}
@@ -87,10 +88,10 @@ arrow_parameters n few = ⊎_elim
     (λ (one : n ≤ 1). let t : nat_lt 1 n ≡ false = grind (arith, nat_tests) in rw t refl)
     (cases_lt 1 n)
 
-arrow_means : (control : ℕ → Control) (n : ℕ) → 0 < n → n ≤ 9999 → stepped control (only (numbers (arrow_params n))) ≡ control n ∷ []
+arrow_means : (control : ℕ → Control) (n : ℕ) → 0 < n → n ≤ 9999 → stepped control (only (numbers (arrow_params n))) ≡ control n
 arrow_means control n some few = ⊎_elim
     (λ (more : 1 < n). let t : nat_lt 1 n ≡ true = grind (arith, nat_tests) in rw t (stepped_decimal control n some few))
-    (λ (one : n ≤ 1). let t : nat_lt 1 n ≡ false = grind (arith, nat_tests) in let is : 1 ≡ n = omega arith in rw t (ap (λ k. control k ∷ []) is))
+    (λ (one : n ≤ 1). let t : nat_lt 1 n ≡ false = grind (arith, nat_tests) in let is : 1 ≡ n = omega arith in rw t (ap control is))
     (cases_lt 1 n)
 
 pub arrow_length : (n letter : ℕ) → n ≤ 999 → length (arrow n letter) ≤ 6
@@ -109,7 +110,7 @@ moves_right old new n placed some fits steps =
     moves_by old new (arrow n 67) old.row (old.col + n) old.pen 6 placed steps (arrow_length n 67 few) placed.on_line fits
     (λ ok lines count. record {
       controls = CUF n ∷ [];
-      spells = subst (λ cs. Spells (arrow n 67) cs) (arrow_means CUF n some (omega arith)) (spells_sequence (arrow_params n) 67 (arrow_parameters n (omega arith)) refl refl refl refl);
+      spells = subst (λ c. Spells (arrow n 67) (c ∷ [])) (arrow_means CUF n some (omega arith)) (spells_sequence (arrow_params n) 67 (arrow_parameters n (omega arith)) refl refl refl refl);
       quiet = quiet_sequence (arrow_params n) 67 (arrow_parameters n (omega arith)) refl refl refl;
       stands = does_right old.rows old.cols lines old.row old.col old.pen n fits;
       touches = λ t base good x on. refl;
@@ -122,7 +123,7 @@ moves_left old new n placed some fits steps =
     moves_by old new (arrow n 68) old.row (old.col - n) old.pen 6 placed steps (arrow_length n 68 few) placed.on_line (omega (arith, placed.in_line))
     (λ ok lines count. record {
       controls = CUB n ∷ [];
-      spells = subst (λ cs. Spells (arrow n 68) cs) (arrow_means CUB n some (omega arith)) (spells_sequence (arrow_params n) 68 (arrow_parameters n (omega arith)) refl refl refl refl);
+      spells = subst (λ c. Spells (arrow n 68) (c ∷ [])) (arrow_means CUB n some (omega arith)) (spells_sequence (arrow_params n) 68 (arrow_parameters n (omega arith)) refl refl refl refl);
       quiet = quiet_sequence (arrow_params n) 68 (arrow_parameters n (omega arith)) refl refl refl;
       stands = does_left old.rows old.cols lines old.row old.col old.pen n;
       touches = λ t base good x on. refl;
@@ -135,14 +136,14 @@ moves_up old new n placed some fits steps =
     moves_by old new (arrow n 65) (old.row - n) old.col old.pen 6 placed steps (arrow_length n 65 few) (omega (arith, placed.on_line)) placed.in_line
     (λ ok lines count. record {
       controls = CUU n ∷ [];
-      spells = subst (λ cs. Spells (arrow n 65) cs) (arrow_means CUU n some (omega arith)) (spells_sequence (arrow_params n) 65 (arrow_parameters n (omega arith)) refl refl refl refl);
+      spells = subst (λ c. Spells (arrow n 65) (c ∷ [])) (arrow_means CUU n some (omega arith)) (spells_sequence (arrow_params n) 65 (arrow_parameters n (omega arith)) refl refl refl refl);
       quiet = quiet_sequence (arrow_params n) 65 (arrow_parameters n (omega arith)) refl refl refl;
       stands = does_up old.rows old.cols lines old.row old.col old.pen n fits;
       touches = λ t base good x on. refl;
     })
 
 pub spells_up : (n : ℕ) → 0 < n → n ≤ 999 → Spells (arrow n 65) (CUU n ∷ [])
-spells_up n some few = subst (λ cs. Spells (arrow n 65) cs) (arrow_means CUU n some (omega arith)) (spells_sequence (arrow_params n) 65 (arrow_parameters n (omega arith)) refl refl refl refl)
+spells_up n some few = subst (λ c. Spells (arrow n 65) (c ∷ [])) (arrow_means CUU n some (omega arith)) (spells_sequence (arrow_params n) 65 (arrow_parameters n (omega arith)) refl refl refl refl)
 
 pub quiet_up : (n : ℕ) → n ≤ 999 → IsQuiet (arrow n 65)
 quiet_up n few = quiet_sequence (arrow_params n) 65 (arrow_parameters n (omega arith)) refl refl refl
@@ -216,7 +217,7 @@ moves_pen old new pen placed good bytes steps =
     moves_by old new (spelled_pen pen) old.row old.col pen 52 placed steps (pen_length pen good bytes) placed.on_line placed.in_line
     (λ ok lines count. record {
       controls = SGR (0 ∷ numbers_of pen) ∷ [];
-      spells = subst (λ cs. Spells (spelled_pen pen) cs) (ap rendition reads) (spells_sequence (48 ∷ listed (numbers_of pen)) 109 params refl refl refl refl);
+      spells = subst (λ c. Spells (spelled_pen pen) (c ∷ [])) (ap rendition reads) (spells_sequence (48 ∷ listed (numbers_of pen)) 109 params refl refl refl refl);
       quiet = quiet_sequence (48 ∷ listed (numbers_of pen)) 109 params refl refl refl;
       stands = does_pen old.rows old.cols lines old.row old.col old.pen pen (0 ∷ numbers_of pen) (styled_numbers old.pen pen good bytes);
       touches = λ t base good x on. refl;

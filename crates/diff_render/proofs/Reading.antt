@@ -1,15 +1,16 @@
 -- What the pieces of a frame read as, whatever comes behind them, and that they hold no question.
 use Rattle.std.proofs.Common.{◌≡◌, ℕ, ◌+◌, ◌-◌, ◌*◌, ◌/◌, ◌%◌, ◌^◌, ◌<◌, ◌≤◌, Bool, true, false, not, List, [], ◌∷◌, ◌++◌, length, drop, slice_index, nat_eq, nat_lt, max, refl, sym, ap, ◌∙◌, arith, append_assoc, append-nil}
+use Rattle.term_model.specs.Obeying.{chars_of}
 use Rattle.std.specs.List.{list_all}
 use Rattle.std.specs.Fmt.{decimal}
 use Rattle.std.proofs.lemmas.Bool.{and_parts, and_from, and_right, false≢true}
 use Rattle.std.proofs.lemmas.Bool.Decides.{nat_tests}
 use Rattle.std.proofs.lemmas.List.Folds.{list_all-append}
 use Rattle.std.proofs.lemmas.Fmt.{decimal_by_steps}
-use Rattle.bstr.specs.Utf8.{Decoded, decoded, good, or_replacement, lossy_chars}
-use Rattle.bstr.proofs.lemmas.PieceLemmas.{lossy_chars-step, value-1}
+use Rattle.term_model.proofs.CharLemmas.{chars_of-ascii}
 use Rattle.term_model.specs.Parameters.{is_digit, is_numeric, capped, numbers_from, numbers}
-use Rattle.term_model.specs.Controls.{Control, between, parameters, controls_from, function_of, is_parameter, is_intermediate, is_final, stepped, only}
+use Rattle.characters.specs.ControlCharacters.{is_parameter, is_intermediate, is_final}
+use Rattle.term_model.specs.Controls.{Control, between, parameters, controls_from, function_of, stepped, only}
 use Rattle.diff_render.specs.Canvas.{reads, Spells, starts, one_more, asked, IsQuiet}
 use Rattle.diff_render.specs.Spelling.{listed}
 
@@ -31,17 +32,11 @@ is_low c = nat_lt c 128
 low-less : (c : ℕ) → is_low c ≡ true → c < 128
 low-less c h = grind (arith, nat_tests)
 
-pub lossy_chars-low : (b : ℕ) (rest : List ℕ) → b < 128 → lossy_chars (b ∷ rest) ≡ b ∷ lossy_chars rest
-lossy_chars-low b rest low =
-    let bytes = b ∷ rest in
-    let reads : decoded bytes ≡ good b 1 = value-1 (length bytes) b (slice_index bytes 1) (slice_index bytes 2) (slice_index bytes 3) (omega arith, low) in
-    lossy_chars-step bytes (omega arith) ∙ ap (λ (p : Decoded). or_replacement p.char ∷ lossy_chars (drop p.size bytes)) reads
-
-pub lossy_chars-all_low : (chars rest : List ℕ) → list_all is_low chars ≡ true → lossy_chars (chars ++ rest) ≡ chars ++ lossy_chars rest
-lossy_chars-all_low [] rest h = refl
-lossy_chars-all_low (c ∷ cs) rest h =
+pub chars_of-all_low : (chars rest : List ℕ) → list_all is_low chars ≡ true → chars_of (chars ++ rest) ≡ chars ++ chars_of rest
+chars_of-all_low [] rest h = refl
+chars_of-all_low (c ∷ cs) rest h =
     let parts = and_parts (is_low c) (list_all is_low cs) h in
-    lossy_chars-low c (cs ++ rest) (low-less c parts.0) ∙ ap (λ x. c ∷ x) (lossy_chars-all_low cs rest parts.1)
+    chars_of-ascii c (cs ++ rest) (low-less c parts.0) ∙ ap (λ x. c ∷ x) (chars_of-all_low cs rest parts.1)
 
 -- ---- readings one after another
 
@@ -55,7 +50,7 @@ spells_then a b cs ds p q rest =
 -- characters below 128 read as they do
 pub spells_low : (chars : List ℕ) (controls : List Control) → list_all is_low chars ≡ true
     → ((rest : List ℕ) → controls_from between (chars ++ rest) ≡ controls ++ controls_from between rest) → Spells chars controls
-spells_low chars controls low step rest = ap (controls_from between) (lossy_chars-all_low chars rest low) ∙ step (lossy_chars rest)
+spells_low chars controls low step rest = ap (controls_from between) (chars_of-all_low chars rest low) ∙ step (chars_of rest)
 
 -- ---- control sequences
 
@@ -68,7 +63,7 @@ params_read acc (p ∷ ps) xs h =
 -- CSI, parameters and a final character
 pub sequence_reads : (ps : List ℕ) (final : ℕ) → list_all is_parameter ps ≡ true
     → is_parameter final ≡ false → is_intermediate final ≡ false → is_final final ≡ true
-    → (rest : List ℕ) → controls_from between (27 ∷ 91 ∷ (ps ++ final ∷ rest)) ≡ function_of ps final ++ controls_from between rest
+    → (rest : List ℕ) → controls_from between (27 ∷ 91 ∷ (ps ++ final ∷ rest)) ≡ function_of ps final ∷ controls_from between rest
 sequence_reads ps final h a b c rest = params_read [] ps (final ∷ rest) h ∙ rw (a, b, c) refl
 
 low_parameter : (c : ℕ) → is_parameter c ≡ true → is_low c ≡ true
@@ -76,9 +71,9 @@ low_parameter c h = grind (arith, nat_tests)
 
 pub spells_sequence : (ps : List ℕ) (final : ℕ) → list_all is_parameter ps ≡ true
     → is_parameter final ≡ false → is_intermediate final ≡ false → is_final final ≡ true → is_low final ≡ true
-    → Spells (27 ∷ 91 ∷ ps ++ final ∷ []) (function_of ps final)
+    → Spells (27 ∷ 91 ∷ ps ++ final ∷ []) (function_of ps final ∷ [])
 spells_sequence ps final h a b c low =
-    spells_low (27 ∷ 91 ∷ ps ++ final ∷ []) (function_of ps final)
+    spells_low (27 ∷ 91 ∷ ps ++ final ∷ []) (function_of ps final ∷ [])
     (all_append is_low ps (final ∷ []) (weaker is_parameter is_low low_parameter ps h) (and_from (is_low final) true low refl))
     (λ rest. ap (λ x. controls_from between (27 ∷ 91 ∷ x)) (append_assoc ps (final ∷ []) rest) ∙ sequence_reads ps final h a b c rest)
 
@@ -134,11 +129,11 @@ listed_numeric (n ∷ ns) h = all_append is_numeric (decimal n) (listed ns) (dec
 arrow_number : (n : ℕ) → 0 < n → n ≤ 9999 → max 1 n ≡ n
 arrow_number n h k = omega arith
 
-pub stepped_decimal : (control : ℕ → Control) (n : ℕ) → 0 < n → n ≤ 9999 → stepped control (only (numbers (decimal n))) ≡ control n ∷ []
+pub stepped_decimal : (control : ℕ → Control) (n : ℕ) → 0 < n → n ≤ 9999 → stepped control (only (numbers (decimal n))) ≡ control n
 stepped_decimal control n h k =
     let whole : numbers_from 0 (decimal n) ≡ n ∷ [] = ap (numbers_from 0) (sym (append-nil (decimal n))) ∙ numbers_decimal n (omega arith) [] ∙ numbers_end n k in
     let is : numbers (decimal n) ≡ n ∷ [] = rw (decimal_numeric n (omega arith)) whole in
-    ap (λ x. stepped control (only x)) is ∙ ap (λ m. control m ∷ []) (arrow_number n h k)
+    ap (λ x. stepped control (only x)) is ∙ ap control (arrow_number n h k)
 
 pub listed-append : (ms ns : List ℕ) → listed (ms ++ ns) ≡ listed ms ++ listed ns
 listed-append [] ns = refl

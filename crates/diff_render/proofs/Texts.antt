@@ -1,12 +1,12 @@
 -- The text of a cell, as it is written and as it reads.
 use Rattle.std.proofs.Common.{◌≡◌, ℕ, suc, ◌+◌, ◌<◌, true, false, List, [], ◌∷◌, ◌++◌, length, drop, get_or, refl, sym, ap, ◌∙◌, arith, append_assoc, drop-cons, encode_utf8, encode_utf8_all}
+use Rattle.term_model.specs.Obeying.{chars_of}
 use Rattle.std.proofs.Common.{◌*◌, ◌/◌, ◌%◌, ◌≤◌, map, nat_eq, nat_lt, nat_le, Some, None, ⊎_elim, if◌then◌else◌}
 use Rattle.std.specs.List.{list_all}
 use Rattle.std.proofs.lemmas.Bool.{and_from, cases_lt}
 use Rattle.std.proofs.lemmas.Bool.Decides.{nat_tests}
 use Rattle.std.proofs.Common.{length-append}
-use Rattle.bstr.specs.Utf8.{lossy_chars}
-use Rattle.bstr.proofs.lemmas.LossyLemmas.{lossy_chars-front}
+use Rattle.term_model.proofs.CharLemmas.{chars_of-front}
 use Rattle.unicode_width.specs.Width.{char_width, alone}
 use Rattle.term_model.specs.Controls.{Control, Print, Read, between, controls_from, next_plain, is_control}
 use Rattle.diff_render.specs.Canvas.{Spells, IsQuiet}
@@ -85,7 +85,7 @@ text_reads (c ∷ cs) rest h =
     ap (λ (p : Read × List Control). p.1 ++ controls_from p.0 (cs ++ rest)) (printed_char c h.0) ∙ ap (λ x. Print c ∷ x) (text_reads cs rest h.1)
 
 pub spells_text : (text : List ℕ) → AllPrinted text → scalars text ≡ true → Spells (encode_utf8_all text) (map Print text)
-spells_text text h valid rest = ap (controls_from between) (lossy_chars-front text rest valid) ∙ text_reads text (lossy_chars rest) h
+spells_text text h valid rest = ap (controls_from between) (chars_of-front text rest valid) ∙ text_reads text (chars_of rest) h
 
 others_text : (text : List ℕ) → AllPrinted text → list_all is_other (encode_utf8_all text) ≡ true
 others_text [] h = refl

@@ -2,12 +2,11 @@
 -- wherever the window is, the same bytes lead from one canvas to the next.
 use Rattle.std.specs.Prelude.{◌≡◌, ℕ, zero, suc, ◌+◌, ◌-◌, ◌<◌, ◌≤◌, Bool, true, false, ◌&&◌, List, [], ◌∷◌, ◌++◌, Option, length, take, max, nat_eq, nat_le}
 use Rattle.std.specs.List.{list_all}
-use Rattle.bstr.specs.Utf8.{lossy_chars}
 use Rattle.cell_grid.specs.declared.cell.Cell.{Cell}
 use Rattle.cell_grid.specs.declared.attrs.Attrs.{Attrs}
 use Rattle.cell_grid.specs.Grid.{blank_rows}
 use Rattle.term_model.specs.Controls.{Control, Print, between, controls_from}
-use Rattle.term_model.specs.Obeying.{act, acted, line_of, wrapped, width_of}
+use Rattle.term_model.specs.Obeying.{act, acted, line_of, wrapped, width_of, chars_of}
 use Rattle.term_model.specs.Term.{Term}
 
 -- the lines from the base line on, as many as there are of a drawing, the cursor's row among them, its column, and the pen
@@ -58,7 +57,7 @@ pub record IsBase (t : Term) (base rows cols : ℕ) : Type 0 where
 
 -- what some bytes read as
 abbrev pub reads : List ℕ → List Control
-reads bytes = controls_from between (lossy_chars bytes)
+reads bytes = controls_from between (chars_of bytes)
 
 -- some bytes read as these controls, whatever comes behind them
 abbrev pub Spells : List ℕ → List Control → Type 0

@@ -1,14 +1,13 @@
 -- What a frame does: the terminal that obeyed it shows the new drawing, whatever it had before the base line.
 use Rattle.std.specs.Prelude.{◌≡◌, ℕ, ◌+◌, ◌-◌, ◌*◌, ◌<◌, ◌≤◌, Bool, true, false, not, ◌&&◌, List, [], ◌++◌, None, length, take, max}
-use Rattle.bstr.specs.Utf8.{lossy_chars}
 use Rattle.cell_grid.specs.declared.cell.Cell.{Cell}
 use Rattle.cell_grid.specs.declared.drawing.Drawing.{Drawing}
 use Rattle.cell_grid.specs.Attrs.{plain}
 use Rattle.cell_grid.specs.Grid.{blank_rows, columns}
 use Rattle.cell_grid.specs.Size.{Extent}
 use Rattle.term_model.specs.Term.{Term, IsTerminal}
-use Rattle.term_model.specs.Obeying.{forgotten, line_of, obeyed}
-use Rattle.diff_render.specs.Canvas.{top_for, reads, question, asked, Touches}
+use Rattle.term_model.specs.Obeying.{forgotten, line_of, obeyed_bytes}
+use Rattle.diff_render.specs.Canvas.{top_for, reads, Spells, question, asked, Touches}
 use Rattle.diff_render.specs.Changes.{is_changed, changed_rows}
 use Rattle.diff_render.specs.declared.shown.OnScreen.{OnScreen}
 use Rattle.diff_render.specs.declared.shown.OnScreen.TheVariants.{Nothing, Drawn, Resized}
@@ -94,7 +93,7 @@ pub record Begins (size : Extent) (screen : OnScreen) (t : Term) (base : ℕ) : 
 -- each terminal that obeys the frame shows the drawing
 abbrev pub Shows : Extent → OnScreen → Drawing → Bool → List ℕ → Type 0
 Shows size screen drawing done frame =
-    (t : Term) (base : ℕ) → Begins size screen t base → Agree (obeyed t (lossy_chars frame)) (put t base drawing done)
+    (t : Term) (base : ℕ) → Begins size screen t base → Agree (obeyed_bytes t frame) (put t base drawing done)
 
 -- each place at which a terminal that obeys the frame prints the lead of a cell is a place that changes
 abbrev pub TouchesChanges : Extent → OnScreen → Drawing → List ℕ → Type 0
@@ -108,7 +107,7 @@ pub record AsksOnce (size : Extent) (screen : OnScreen) (frame : List ℕ) : Typ
   pub cut : frame ≡ before ++ question ++ behind
   pub none_before : asked before ≡ 0
   pub none_behind : asked behind ≡ 0
-  pub on_base : (t : Term) (base : ℕ) → Begins size screen t base → line_of (obeyed t (lossy_chars before)) ≡ base
+  pub on_base : (t : Term) (base : ℕ) → Begins size screen t base → line_of (obeyed_bytes t before) ≡ base
 
 -- whether a frame asks: one that is made so, is not finished, and begins with nothing shown or with a forgotten size
 abbrev pub has_to_ask : OnScreen → Bool → Bool → Bool
@@ -141,11 +140,13 @@ IsOnScreen (Resized row) drawing = ⊥
 
 -- ---- all of it
 
--- what a frame is: it shows the drawing, prints only where places change, is short, asks exactly where it has to, and is empty where the
--- drawing is on the screen already and the prompt goes on
+-- what a frame is: it shows the drawing, prints only where places change, is short, asks exactly where it has to, is empty where the
+-- drawing is on the screen already and the prompt goes on, and ends between characters and between control sequences: it reads as the
+-- same whatever comes behind it
 pub record IsFrame (size : Extent) (screen : OnScreen) (drawing : Drawing) (done ask : Bool) (frame : List ℕ) : Type 0 where
   pub shows : Shows size screen drawing done frame
   pub touches : TouchesChanges size screen drawing frame
   pub short : length frame ≤ 100 + 128 * changed_places size screen drawing + 16 * height_of screen drawing
   pub asks : AsksWhere (has_to_ask screen done ask) size screen frame
   pub unchanged : IsOnScreen screen drawing → done ≡ false → frame ≡ []
+  pub ends : Spells frame (reads frame)

@@ -14,15 +14,15 @@ pub trait Screen {
     // tells nothing.
     ghost took: { Self → List ℕ → Self → Type 0 };
 
-    // What a refused frame leaves.
-    ghost missed: { Self → Self → Type 0 };
+    // What refusing a frame leaves of the screen.
+    ghost missed: { Self → List ℕ → Self → Type 0 };
 
     ghost faults: { Self → ℕ };
 
     /// Takes the whole frame, or fails and shows none of it.
     fn frame(&mut self, bytes: &[u8]) -> Result<(), Failed>
         ensures took { OnOk result (took self.old bytes.now self.new) }
-        ensures missed { OnErr result (missed self.old self.new) }
+        ensures missed { OnErr result (missed self.old bytes.now self.new) }
         ensures cause { HasCause (faults self.old) (faults self.new) result };
 }
 
@@ -89,7 +89,7 @@ impl MemoryScreen {
 impl Screen for MemoryScreen {
     ghost took = { TakesFrame };
 
-    ghost missed = { λ old new. new.taken ≡ old.taken };
+    ghost missed = { λ old _ new. new.taken ≡ old.taken };
 
     ghost faults = { λ s. s.faults };
 

@@ -4,12 +4,11 @@ use Rattle.events.specs.declared.events.Event.{Event}
 use Rattle.events.specs.declared.events.Event.TheVariants.{Start, Piece, Tick, Resize, Answer, End}
 use Rattle.std.proofs.lemmas.Bool.{false≢true}
 use Rattle.std.specs.List.{concat}
-use Rattle.bstr.specs.Utf8.{lossy_chars}
 use Rattle.cell_grid.specs.Size.{Extent}
 use Rattle.cell_grid.specs.declared.drawing.Drawing.{Drawing}
 use Rattle.diff_render.specs.Frames.{put, Agree, Begins, screen_after}
 use Rattle.diff_render.specs.declared.shown.OnScreen.{OnScreen}
-use Rattle.term_model.specs.Obeying.{forgotten, obeyed}
+use Rattle.term_model.specs.Obeying.{forgotten, obeyed_bytes}
 use Rattle.term_model.specs.Term.{Term, IsTerminal}
 use Rattle.session_core.specs.Draw.{draw, settle, window_of}
 use Rattle.session_core.specs.Keys.{is_accept, edited, ran}
@@ -109,13 +108,13 @@ begins_by false e size drawing before x t base shown begins terminal high kept s
 
 -- the frames that are kept are those of one event more
 keeps_more : (before now : Option (List ℕ)) (p : Play) (event : Event) (t sized u : Term) (frame : List ℕ) → KeepsFrames before p t → Keeps before frame now
-    → sized ≡ terminal_at p.run.state.size (next p.run.state event).size t → u ≡ obeyed sized (lossy_chars frame) → Agree u (ran_on p.run event).screen
+    → sized ≡ terminal_at p.run.state.size (next p.run.state event).size t → u ≡ obeyed_bytes sized frame → Agree u (ran_on p.run event).screen
     → KeepsFrames now (done_by false p event) u
 keeps_more None now p event t sized u frame kept keeps resize obeys agree =
     let P : Option (List ℕ) → Type 0 = λ frames. KeepsFrames frames (done_by false p event) u in subst P (sym keeps) tt
 keeps_more (Some bytes) now p event t sized u frame kept keeps resize obeys agree =
     let P : Option (List ℕ) → Term → Type 0 = λ frames x. KeepsFrames frames (done_by false p event) x in
-    let is : u ≡ obeying t p.run event frame = obeys ∙ ap (λ x. obeyed x (lossy_chars frame)) resize in
+    let is : u ≡ obeying t p.run event frame = obeys ∙ ap (λ x. obeyed_bytes x frame) resize in
     let seen : Agree (obeying t p.run event frame) (ran_on p.run event).screen = subst (λ x. Agree x (ran_on p.run event).screen) is agree in
     subst (λ frames. P frames u) (sym keeps) (subst (λ x. P (Some (bytes ++ frame)) x) (sym is) (
       kept.0 ++ frame ∷ [],
@@ -143,7 +142,7 @@ held_next old new p event holds going advances =
     let shows : ShowsState (shown_at r.state.size S.size old.shown) S advances.frame =
     subst (λ s. ShowsState (shown_at r.state.size s.size old.shown) s advances.frame) is
     (subst (λ (s : State). ShowsState (shown_at s.size new.session.size old.shown) new.session advances.frame) holds.state advances.shows) in
-    let obeyed_u : new.screen.terminal ≡ obeyed u (lossy_chars advances.frame) = advances.obeys.obeyed ∙ ap (λ x. obeyed x (lossy_chars advances.frame)) sized in
+    let obeyed_u : new.screen.terminal ≡ obeyed_bytes u advances.frame = advances.obeys.obeyed ∙ ap (λ x. obeyed_bytes x advances.frame) sized in
     let seen : Agree new.screen.terminal (put u base (draw S) over) =
     subst (λ x. Agree x (put u base (draw S) over)) (sym obeyed_u) (shows.shows u base begins) in
     let agrees : Agree new.screen.terminal (ran_on r event).screen =

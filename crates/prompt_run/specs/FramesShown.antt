@@ -1,16 +1,15 @@
 -- What frames do to a terminal: after each of them it shows the run's screen.
 use Rattle.std.specs.Prelude.{◌≡◌, ℕ, List, [], ◌∷◌}
-use Rattle.bstr.specs.Utf8.{lossy_chars}
 use Rattle.diff_render.specs.Frames.{Agree}
 use Rattle.events.specs.declared.events.Event.{Event}
 use Rattle.session_core.specs.Next.{next}
-use Rattle.term_model.specs.Obeying.{obeyed}
+use Rattle.term_model.specs.Obeying.{obeyed_bytes}
 use Rattle.term_model.specs.Term.{Term}
 use Rattle.prompt_run.specs.Run.{Run, ran_on, terminal_at}
 
 -- the terminal that took an event's resize, if it was one, and obeyed the event's frame
 abbrev pub obeying : Term → Run → Event → List ℕ → Term
-obeying t r event frame = obeyed (terminal_at r.state.size (next r.state event).size t) (lossy_chars frame)
+obeying t r event frame = obeyed_bytes (terminal_at r.state.size (next r.state event).size t) frame
 
 -- there is one frame for each event, and the terminal that obeys them agrees with the run's screen after each; in the end the terminal
 -- and the run are these

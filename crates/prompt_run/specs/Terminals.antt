@@ -1,12 +1,11 @@
 -- What a contract sees of a terminal that obeyed a frame, and of the frames that are kept.
 use Rattle.std.specs.Prelude.{◌≡◌, ℕ, ◌++◌, List, Option, Some, None}
-use Rattle.bstr.specs.Utf8.{lossy_chars}
-use Rattle.term_model.specs.Obeying.{obeyed}
+use Rattle.term_model.specs.Obeying.{obeyed_bytes}
 use Rattle.term_model.specs.Term.{Term, IsTerminal}
 
 -- the new terminal is the old one behind the bytes of the frame
 pub record Obeys (old : Term) (frame : List ℕ) (new : Term) : Type 0 where
-  pub obeyed : new ≡ obeyed old (lossy_chars frame)
+  pub obeyed : new ≡ obeyed_bytes old frame
   pub terminal : IsTerminal new
 
 -- the bytes of the frame stand behind those of the frames before, where they are kept

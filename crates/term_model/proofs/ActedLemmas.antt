@@ -2,7 +2,9 @@
 use Rattle.std.proofs.Common.{◌≡◌, ℕ, List, [], ◌∷◌, ◌++◌, refl, ap, ◌∙◌, append_assoc, sym}
 use Rattle.term_model.specs.Term.{Term}
 use Rattle.term_model.specs.Controls.{Control, Read, between, controls_from, next_of, read_after}
-use Rattle.term_model.specs.Obeying.{act, acted, obeyed}
+use Rattle.term_model.specs.Obeying.{act, acted, chars_of, obeyed, obeyed_bytes}
+use Rattle.term_model.specs.Laws.{EndBetween}
+use Rattle.term_model.proofs.CharLemmas.{chars_of-append}
 
 pub acted-append : (t : Term) (controls more : List Control) → acted t (controls ++ more) ≡ acted (acted t controls) more
 acted-append t [] more = refl
@@ -20,3 +22,8 @@ pub obeyed-append : (t : Term) (chars more : List ℕ) → read_after between ch
 obeyed-append t chars more whole =
     ap (acted t) (controls_from-append chars more between ∙ ap (λ (read : Read). controls_from between chars ++ controls_from read more) whole)
     ∙ acted-append t (controls_from between chars) (controls_from between more)
+
+-- bytes that end between characters and between control sequences are obeyed by themselves
+pub obeyed_bytes-append : (t : Term) (bytes more : List ℕ) → EndBetween bytes → obeyed_bytes t (bytes ++ more) ≡ obeyed_bytes (obeyed_bytes t bytes) more
+obeyed_bytes-append t bytes more ends =
+    ap (obeyed t) (chars_of-append bytes more ends.characters) ∙ obeyed-append t (chars_of bytes) (chars_of more) ends.sequences

@@ -1,10 +1,10 @@
 -- Rows that are cut and padded cell by cell.
-use Rattle.std.proofs.Common.{◌≡◌, ℕ, ◌+◌, ◌-◌, ◌≤◌, ◌<◌, ◌⊎◌, inl, inr, Bool, true, false, List, [], ◌∷◌, ◌++◌, Some, length, take, drop, min, map, refl, sym, ap, subst, ◌∙◌, arith, length-drop, take_all, ⊎_elim}
+use Rattle.std.proofs.Common.{◌≡◌, ℕ, ◌+◌, ◌-◌, ◌≤◌, ◌<◌, ◌⊎◌, inl, inr, Bool, true, false, List, [], ◌∷◌, ◌++◌, Some, length, take, drop, min, map, refl, sym, ap, subst, ◌∙◌, arith, length-drop, append-nil, take_all, ⊎_elim}
 use Rattle.std.specs.Prelude.{slice_get, nat_le, if◌then◌else◌}
 use Rattle.std.proofs.Math.Seq.{take-add}
 use Rattle.std.proofs.lemmas.Bool.{cases_lt}
 use Rattle.std.proofs.lemmas.Bool.Decides.{nat_tests}
-use Rattle.std.proofs.lemmas.List.{drop_more, drop-drop, take_more, length-take}
+use Rattle.std.proofs.lemmas.List.{drop_more, drop-drop, take_more, length-map, length-take}
 use Rattle.std.proofs.lemmas.Option.{get_or_from_slice_get}
 use Rattle.cell_grid.specs.declared.attrs.Attrs.{Attrs}
 use Rattle.cell_grid.specs.declared.cell.Cell.{Cell}
@@ -13,8 +13,9 @@ use Rattle.cell_grid.specs.Cell.{blank, IsLead, spread}
 use Rattle.cell_grid.specs.Row.{IsWhole, IsWholeAfter, mended, mend_end, blank_row}
 use Rattle.cell_grid.proofs.RowLemmas.{length-mend_end, whole-append, whole-spread}
 use Rattle.term_model.specs.Resizing.{fitted_line, fitted_lines}
-use Rattle.cell_grid.specs.Grid.{blank_rows}
+use Rattle.cell_grid.specs.Grid.{AllRows, blank_rows}
 use Rattle.term_model.proofs.EraseLemmas.{mend_end-whole}
+use Rattle.term_model.proofs.LineLemmas.{AllRows-take}
 
 -- the cell that a whole row begins with
 pub record Begins (cell : Cell) (rest : List Cell) : Type 0 where
@@ -130,13 +131,34 @@ cut_and_padded row cols =
     ap (λ (n : ℕ). mend_end (take cols row) ++ blank_row n) same
 
 -- lines that are cut and then padded
-pub fitted_and_padded : (lines : List (List Cell)) (count cols kept padded : ℕ) → kept ≡ min count (length lines) → padded ≡ count - length lines
-    → map (fitted_line cols) (take kept lines) ++ blank_rows padded cols ≡ fitted_lines count cols lines
-fitted_and_padded lines count cols kept padded same more =
+pub fitted_and_padded : (lines fitted : List (List Cell)) (count cols kept : ℕ) → kept ≡ min count (length lines) → fitted ≡ map (fitted_line cols) (take kept lines)
+    → take count fitted ++ blank_rows (count - length fitted) cols ≡ fitted_lines count cols lines
+fitted_and_padded lines fitted count cols kept same is =
     let taken : take kept lines ≡ take count lines =
     ⊎_elim
     (λ (few : count < length lines). let all : kept ≡ count = omega arith in ap (λ (n : ℕ). take n lines) all)
     (λ (past : length lines ≤ count). take_all kept lines (omega arith) ∙ sym (take_all count lines past))
     (cases_lt count (length lines)) in
-    ap (λ rows. map (fitted_line cols) rows ++ blank_rows padded cols) taken
+    let cut : fitted ≡ map (fitted_line cols) (take count lines) = is ∙ ap (map (fitted_line cols)) taken in
+    let long : length fitted ≡ min count (length lines) =
+    ap length cut ∙ length-map (take count lines) (fitted_line cols) ∙ length-take count lines in
+    let more : count - length fitted ≡ count - length lines = omega (arith, long) in
+    ap (λ (rows : List (List Cell)). rows ++ blank_rows (count - length fitted) cols) (take_all count fitted (omega (arith, long)) ∙ cut)
     ∙ ap (λ (n : ℕ). map (fitted_line cols) (take count lines) ++ blank_rows n cols) more
+
+-- rows that have these columns stay as they are
+fitted_same : (cols : ℕ) (rows : List (List Cell)) → AllRows cols rows → map (fitted_line cols) rows ≡ rows
+fitted_same cols [] all = refl
+fitted_same cols (row ∷ rows) all =
+    let none : cols - length row ≡ 0 = omega (arith, all.0.long) in
+    let same : fitted_line cols row ≡ row =
+    ap (λ (n : ℕ). mend_end (take cols row) ++ blank_row n) none
+    ∙ append-nil (mend_end (take cols row))
+    ∙ ap mend_end (take_all cols row (omega (arith, all.0.long)))
+    ∙ mend_end-whole row all.0.whole in
+    ap (λ first. first ∷ map (fitted_line cols) rows) same ∙ ap (λ rest. row ∷ rest) (fitted_same cols rows all.1)
+
+pub lines_same : (count cols : ℕ) (lines : List (List Cell)) → AllRows cols lines
+    → take count lines ++ blank_rows (count - length lines) cols ≡ fitted_lines count cols lines
+lines_same count cols lines all =
+    ap (λ (rows : List (List Cell)). rows ++ blank_rows (count - length lines) cols) (sym (fitted_same cols (take count lines) (AllRows-take count cols lines all)))

@@ -13,7 +13,7 @@ use Rattle.cell_grid.specs.Row.{blank_row, put_at}
 use Rattle.cell_grid.specs.Grid.{IsRow, AllRows, row_at, blank_rows}
 use Rattle.cell_grid.specs.Size.{Extent, IsScreen}
 use Rattle.cell_grid.proofs.RowLemmas.{whole-spread}
-use Rattle.term_model.specs.Controls.{Control, CR, LF, CUU, CUF, CUB, EL, ED, SGR, DECAWM, DECTCEM, BracketedPaste, Print}
+use Rattle.term_model.specs.Controls.{Control, CR, LF, CUU, CUF, CUB, EL, ED, SGR, DECAWM, DECTCEM, BracketedPaste, Ignored, Print}
 use Rattle.term_model.specs.Term.{Term, IsTerminal, HasLead, start_of}
 use Rattle.term_model.specs.Obeying.{line_of, returned, wiped, wiped_row, fed_by, fed, erased_line, erased_in_line, erased_in_page, wrapped_by, wrapped, placed_by, placed, joined_cell, joined_row, joined_at, joined, width_of, printed_by, act, acted}
 use Rattle.term_model.specs.Resizing.{fitted_line, rows_lost, resized}
@@ -171,6 +171,7 @@ act-keeps t (SGR numbers) h = record { size = h.size; count = h.count; wide = h.
 act-keeps t (DECAWM on) h = record { size = h.size; count = h.count; wide = h.wide; row = h.row; col = h.col; last = tt }
 act-keeps t (DECTCEM on) h = record { size = h.size; count = h.count; wide = h.wide; row = h.row; col = h.col; last = tt }
 act-keeps t (BracketedPaste on) h = record { size = h.size; count = h.count; wide = h.wide; row = h.row; col = h.col; last = tt }
+act-keeps t Ignored h = record { size = h.size; count = h.count; wide = h.wide; row = h.row; col = h.col; last = tt }
 act-keeps t (Print c) h = printed_by-keeps (width_of c) t c h
 
 pub acted-keeps : (controls : List Control) (t : Term) → IsTerminal t → IsTerminal (acted t controls)

@@ -1,4 +1,5 @@
 pub mod ActedLemmas
+pub mod CharLemmas
 pub mod EraseLemmas
 pub mod FitLemmas
 pub mod KeepLemmas

@@ -6,10 +6,11 @@ use Rattle.std.proofs.lemmas.List.{length-replicate, length-take, get_or-set_sam
 use Rattle.cell_grid.specs.declared.attrs.Attrs.{Attrs}
 use Rattle.cell_grid.specs.declared.cell.Cell.{Cell}
 use Rattle.cell_grid.specs.declared.cell.Cell.TheVariants.{Lead, Tail}
+use Rattle.cell_grid.specs.Attrs.{plain}
 use Rattle.cell_grid.specs.Cell.{spread}
 use Rattle.cell_grid.specs.Row.{IsWhole, IsWholeAfter, mend_end, mend_start, blank_row, laid_at, put_at}
 use Rattle.cell_grid.specs.Grid.{IsRow, AllRows, row_at}
-use Rattle.cell_grid.proofs.RowLemmas.{length-mend_end, length-laid_at, whole-laid_at, whole-append, front-whole}
+use Rattle.cell_grid.proofs.RowLemmas.{length-mend_end, length-laid_at, whole-laid_at, whole-append, whole-narrow, front-whole}
 use Rattle.cell_grid.proofs.GridLemmas.{row-blank_row}
 use Rattle.term_model.specs.Obeying.{wiped}
 use Rattle.term_model.specs.Resizing.{fitted_line}
@@ -18,8 +19,7 @@ use Rattle.term_model.specs.Term.{HasLead}
 -- ---- one line
 
 pub whole-wiped : (cols : ℕ) (pen : Attrs) → IsWhole (replicate cols (wiped pen))
-whole-wiped zero pen = tt
-whole-wiped (suc cols) pen = inl (refl, whole-wiped cols pen)
+whole-wiped cols pen = whole-narrow cols 32 (record plain { bg = pen.bg })
 
 pub row-wiped : (cols : ℕ) (pen : Attrs) → IsRow cols (replicate cols (wiped pen))
 row-wiped cols pen = record { long = length-replicate cols (wiped pen); whole = whole-wiped cols pen }

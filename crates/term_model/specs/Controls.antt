@@ -1,6 +1,7 @@
 -- What characters read as: each is printed, or belongs to a control function of ECMA-48 (5th edition) or of xterm.
 use Rattle.std.specs.Prelude.{ℕ, Bool, true, false, List, [], ◌∷◌, ◌++◌, Option, Some, None, ◌==◌, ◌||◌, nat_lt, max, if◌then◌else◌}
 use Rattle.std.specs.Int.{is_in_range}
+use Rattle.characters.specs.ControlCharacters.{is_parameter, is_intermediate, is_final}
 use Rattle.term_model.specs.Parameters.{numbers}
 
 -- a control function with what it is given, or a character to print
@@ -21,6 +22,8 @@ pub data Control : Type 0 where
   DECAWM : Bool → Control
   DECTCEM : Bool → Control
   BracketedPaste : Bool → Control
+  -- one without an effect: a control character, an escape or control sequence that is not known, or one that another character breaks off
+  Ignored : Control
   -- a character that is no control
   Print : ℕ → Control
 
@@ -36,28 +39,28 @@ private_number [] = None
 private_number (c ∷ cs) = if c == 63 then only (numbers cs) else None
 
 -- a cursor control goes at least one place
-abbrev pub stepped : (ℕ → Control) → Option ℕ → List Control
-stepped control None = []
-stepped control (Some n) = control (max 1 n) ∷ []
+abbrev pub stepped : (ℕ → Control) → Option ℕ → Control
+stepped control None = Ignored
+stepped control (Some n) = control (max 1 n)
 
 -- erasing is given no parameters
-abbrev pub erasing : Control → List ℕ → List Control
-erasing control [] = control ∷ []
-erasing control (c ∷ cs) = []
+abbrev pub erasing : Control → List ℕ → Control
+erasing control [] = control
+erasing control (c ∷ cs) = Ignored
 
 -- attributes are given some numbers
-abbrev pub rendition : List ℕ → List Control
-rendition [] = []
-rendition (n ∷ ns) = SGR (n ∷ ns) ∷ []
+abbrev pub rendition : List ℕ → Control
+rendition [] = Ignored
+rendition (n ∷ ns) = SGR (n ∷ ns)
 
 -- the private modes that are known
-abbrev pub mode : Bool → Option ℕ → List Control
-mode on None = []
+abbrev pub mode : Bool → Option ℕ → Control
+mode on None = Ignored
 mode on (Some n) =
-    if n == 7 then DECAWM on ∷ [] else if n == 25 then DECTCEM on ∷ [] else if n == 2004 then BracketedPaste on ∷ [] else []
+    if n == 7 then DECAWM on else if n == 25 then DECTCEM on else if n == 2004 then BracketedPaste on else Ignored
 
--- the function of a control sequence with these parameters, no intermediate and this final character: none for one that is not known
-abbrev pub function_of : List ℕ → ℕ → List Control
+-- the function of a control sequence with these parameters, no intermediate and this final character
+abbrev pub function_of : List ℕ → ℕ → Control
 function_of params final =
     if final == 65 then stepped CUU (only (numbers params))
     else if final == 67 then stepped CUF (only (numbers params))
@@ -67,7 +70,7 @@ function_of params final =
     else if final == 104 then mode true (private_number params)
     else if final == 108 then mode false (private_number params)
     else if final == 109 then rendition (numbers params)
-    else []
+    else Ignored
 
 -- how far the characters so far have come
 pub data Read : Type 0 where
@@ -80,16 +83,6 @@ pub data Read : Type 0 where
   -- behind CSI, parameters and an intermediate: no such sequence has an effect
   intermediates : Read
 
--- the characters of which control sequences are built (5.4)
-abbrev pub is_parameter : ℕ → Bool
-is_parameter = is_in_range 0x30 0x3F
-
-abbrev pub is_intermediate : ℕ → Bool
-is_intermediate = is_in_range 0x20 0x2F
-
-abbrev pub is_final : ℕ → Bool
-is_final = is_in_range 0x40 0x7E
-
 -- the control characters: C0, DELETE and C1
 abbrev pub is_control : ℕ → Bool
 is_control c = nat_lt c 0x20 || is_in_range 0x7F 0x9F c
@@ -100,20 +93,24 @@ next_plain c =
     if c == 0x1B then (escape, [])
     else if c == 0x0D then (between, CR ∷ [])
     else if c == 0x0A then (between, LF ∷ [])
-    else if is_control c then (between, [])
+    else if is_control c then (between, Ignored ∷ [])
     else (between, Print c ∷ [])
 
--- what the next character leads to, and the control that it completes, if any
+-- a character that fits none of a control sequence breaks it off, and is read anew
+abbrev pub next_broken : ℕ → Read × List Control
+next_broken c = ((next_plain c).0, Ignored ∷ (next_plain c).1)
+
+-- what the next character leads to, and the controls that it completes
 abbrev pub next_of : Read → ℕ → Read × List Control
 next_of between c = next_plain c
-next_of escape c = if c == 0x5B then (parameters [], []) else (between, [])
+next_of escape c = if c == 0x5B then (parameters [], []) else (between, Ignored ∷ [])
 next_of (parameters params) c =
     if is_parameter c then (parameters (params ++ c ∷ []), [])
     else if is_intermediate c then (intermediates, [])
-    else if is_final c then (between, function_of params c)
-    else next_plain c
+    else if is_final c then (between, function_of params c ∷ [])
+    else next_broken c
 next_of intermediates c =
-    if is_intermediate c then (intermediates, []) else if is_final c then (between, []) else next_plain c
+    if is_intermediate c then (intermediates, []) else if is_final c then (between, Ignored ∷ []) else next_broken c
 
 -- the controls that the characters read as, in order: a sequence that is not finished gives none
 abbrev pub controls_from : Read → List ℕ → List Control

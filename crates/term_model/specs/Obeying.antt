@@ -1,5 +1,6 @@
 -- What each control does to a terminal.
 use Rattle.std.specs.Prelude.{ℕ, zero, suc, ◌+◌, ◌-◌, Bool, true, false, ◌&&◌, List, [], ◌∷◌, ◌++◌, Option, Some, None, min, take, replicate, nat_lt, nat_le, unwrap_or, slice_get, slice_set}
+use Rattle.characters.specs.Characters.{characters}
 use Rattle.unicode_width.specs.Width.{char_width}
 use Rattle.cell_grid.specs.declared.attrs.Attrs.{Attrs}
 use Rattle.cell_grid.specs.declared.cell.Cell.{Cell}
@@ -9,7 +10,7 @@ use Rattle.cell_grid.specs.Cell.{narrow}
 use Rattle.cell_grid.specs.CellText.{with_joined}
 use Rattle.cell_grid.specs.Row.{laid_at, put_at}
 use Rattle.cell_grid.specs.Grid.{row_at, put_in}
-use Rattle.term_model.specs.Controls.{Control, CR, LF, CUU, CUF, CUB, EL, ED, SGR, DECAWM, DECTCEM, BracketedPaste, Print, between, controls_from}
+use Rattle.term_model.specs.Controls.{Control, CR, LF, CUU, CUF, CUB, EL, ED, SGR, DECAWM, DECTCEM, BracketedPaste, Ignored, Print, between, controls_from}
 use Rattle.term_model.specs.Rendition.{styled}
 use Rattle.term_model.specs.Term.{Term}
 
@@ -118,7 +119,8 @@ printed t c = printed_by (width_of c) t c
 
 -- ---- all controls
 
--- what one control does: each but attributes and printing forgets the pending wrap and the place printed last
+-- what one control does: each but attributes and printing forgets the pending wrap and the place printed last, also one without an
+-- effect
 abbrev pub act : Term → Control → Term
 act t CR = returned t
 act t LF = fed t
@@ -131,6 +133,7 @@ act t (SGR numbers) = record t { pen = styled t.pen numbers }
 act t (DECAWM on) = forgotten (record t { wraps = on })
 act t (DECTCEM on) = forgotten (record t { visible = on })
 act t (BracketedPaste on) = forgotten (record t { pasting = on })
+act t Ignored = forgotten t
 act t (Print c) = printed t c
 
 -- what some controls do, one after the other
@@ -141,3 +144,11 @@ acted t (control ∷ controls) = acted (act t control) controls
 -- the terminal that obeyed some characters
 abbrev pub obeyed : Term → List ℕ → Term
 obeyed t chars = acted t (controls_from between chars)
+
+-- the characters of some bytes, without one that is unfinished at their end
+abbrev pub chars_of : List ℕ → List ℕ
+chars_of bytes = (characters bytes).items
+
+-- the terminal that obeyed some bytes
+abbrev pub obeyed_bytes : Term → List ℕ → Term
+obeyed_bytes t bytes = obeyed t (chars_of bytes)

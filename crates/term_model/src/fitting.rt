@@ -1,22 +1,22 @@
 //! Lines that are cut or padded to another number of columns.
-ghost use Rattle.std.specs.Prelude.{◌≡◌, ◌≤◌, ◌-◌, ◌++◌, ℕ, length, map, take, IfOk, OnOk, vec_len, if◌then◌else◌};
+ghost use Rattle.std.specs.Prelude.{◌≡◌, ◌≤◌, ◌-◌, ◌++◌, ℕ, length, map, take, IfOk, OnOk, OnErr, vec_len, if◌then◌else◌};
 ghost use Rattle.cell_grid.specs.Cell.{blank};
 ghost use Rattle.cell_grid.specs.Row.{IsWhole, blank_row, mend_end};
 ghost use Rattle.cell_grid.specs.Grid.{AllRows, blank_rows};
 ghost use Rattle.term_model.specs.Resizing.{fitted_line, fitted_lines};
 
-use crate::lines::wiped_row;
-use cell_grid::{Attrs, Cell, CellRow, NoMemory};
+use crate::lines::blank_rows;
+use cell_grid::{Cell, CellRow, NoMemory};
 use std::alloc::Global;
 
-/// The cell, or a blank in its place where it does not fit.
+/// Returns the cell, or a blank in its place where it does not fit.
 fn cell_or_blank(cell: Cell, fits: bool) -> Cell
     ensures { result ≡ (if fits then cell else blank) }
 {
     if fits { cell } else { Cell::blank() }
 }
 
-/// The first cells of a row, where a wide character that is cut becomes blank.
+/// Returns the first cells of a row, where a wide character that is cut becomes blank.
 fn cut_row(alloc: Global, row: &CellRow, cols: usize) -> Result<CellRow, NoMemory>
     requires { IsWhole row.now }
     ensures { IfOk result (λ cut. cut ≡ mend_end (take cols row.now)) }
@@ -41,7 +41,7 @@ fn pad_row(row: &mut CellRow, cols: usize) -> Result<(), NoMemory>
     Ok(())
 }
 
-/// The row cut or padded to a number of columns.
+/// Returns the row cut or padded to a number of columns.
 fn fitted_row(alloc: Global, row: &CellRow, cols: usize) -> Result<CellRow, NoMemory>
     requires { IsWhole row.now }
     ensures { IfOk result (λ fitted. fitted ≡ fitted_line cols row.now) }
@@ -51,7 +51,7 @@ fn fitted_row(alloc: Global, row: &CellRow, cols: usize) -> Result<CellRow, NoMe
     Ok(fitted)
 }
 
-/// The first lines, each cut or padded to a number of columns.
+/// Returns the first lines, each cut or padded to a number of columns.
 fn first_fitted(
     alloc: Global,
     lines: &Vec<CellRow>,
@@ -70,24 +70,22 @@ fn first_fitted(
     Ok(fitted)
 }
 
-/// Adds blank lines up to a number of lines.
-fn pad_lines(
-    alloc: Global,
-    lines: &mut Vec<CellRow>,
-    count: usize,
-    cols: usize,
-) -> Result<(), NoMemory>
-    ensures { OnOk result (lines.new.items ≡ lines.old.items ++ blank_rows (count - vec_len lines.old) cols) }
+/// Drops the lines behind so many, and adds blank ones where there are fewer.
+fn fit_count(lines: &mut Vec<CellRow>, count: usize, cols: usize) -> Result<(), NoMemory>
+    ensures ok { OnOk result (lines.new.items ≡ take count lines.old.items ++ blank_rows (count - length lines.old.items) cols) }
+    ensures err { OnErr result (lines.new.items ≡ lines.old.items) }
 {
-    for _ in lines.len()..count {
-        let row = wiped_row(alloc, cols, Attrs::plain())?;
-        lines.push(row)?;
+    if count <= lines.len() {
+        lines.truncate(count);
+        return Ok(());
     }
+    let mut added = blank_rows(*lines.allocator(), count - lines.len(), cols)?;
+    lines.append(&mut added)?;
     Ok(())
 }
 
-/// So many lines of a number of columns: the first of some lines, and blank ones behind them.
-pub(crate) fn fitted_lines(
+/// Returns so many lines of a number of columns: the first of some lines, and blank ones behind them.
+fn fitted_lines(
     alloc: Global,
     lines: &Vec<CellRow>,
     count: usize,
@@ -97,6 +95,26 @@ pub(crate) fn fitted_lines(
     ensures { IfOk result (λ fitted. fitted.items ≡ fitted_lines count cols lines.now.items) }
 {
     let mut fitted = first_fitted(alloc, lines, count.min(lines.len()), cols)?;
-    pad_lines(alloc, &mut fitted, count, cols)?;
+    fit_count(&mut fitted, count, cols)?;
     Ok(fitted)
+}
+
+/// Gives lines of some columns another number of lines and of columns. Where the columns stay, no line is made anew.
+pub(crate) fn fit_lines(
+    lines: &mut Vec<CellRow>,
+    from: usize,
+    count: usize,
+    cols: usize,
+) -> Result<(), NoMemory>
+    requires { AllRows from lines.old.items }
+    ensures ok { OnOk result (lines.new.items ≡ fitted_lines count cols lines.old.items) }
+    ensures err { OnErr result (lines.new.items ≡ lines.old.items) }
+{
+    if from == cols {
+        fit_count(lines, count, cols)?;
+        return Ok(());
+    }
+    let fitted = fitted_lines(*lines.allocator(), lines, count, cols)?;
+    *lines = fitted;
+    Ok(())
 }

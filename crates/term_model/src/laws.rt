@@ -1,11 +1,10 @@
 //! Laws of what terminals obey, each the contract of a function that does nothing.
 ghost use Rattle.std.specs.Prelude.{◌≡◌, ◌++◌, List, ℕ, true};
 ghost use Rattle.std.specs.Str.{encode_utf8_all};
-ghost use Rattle.bstr.specs.Utf8.{lossy_chars};
 ghost use Rattle.term_model.specs.Controls.{Control, between, read_after};
 ghost use Rattle.term_model.specs.Term.{Term, IsTerminal};
-ghost use Rattle.term_model.specs.Obeying.{act, acted, obeyed};
-ghost use Rattle.term_model.specs.Laws.{AreScalars};
+ghost use Rattle.term_model.specs.Obeying.{act, acted, chars_of, obeyed, obeyed_bytes};
+ghost use Rattle.term_model.specs.Laws.{AreScalars, EndBetween};
 
 /// Characters that end between control sequences are obeyed by themselves, and those behind them
 /// afterwards.
@@ -14,16 +13,21 @@ pub fn obey_in_turn()
         → obeyed t (chars ++ more) ≡ obeyed (obeyed t chars) more }
 {}
 
-/// The same of bytes of which the first are these characters in UTF-8.
-pub fn obey_encoded()
-    ensures { (t : Term) (chars : List ℕ) (bytes : List ℕ) → AreScalars chars → read_after between chars ≡ between
-        → obeyed t (lossy_chars (encode_utf8_all chars ++ bytes)) ≡ obeyed (obeyed t chars) (lossy_chars bytes) }
+/// The same of bytes: those that end between characters and between control sequences may be obeyed in a call of their own.
+pub fn obey_in_two_calls()
+    ensures { (t : Term) (bytes more : List ℕ) → EndBetween bytes
+        → obeyed_bytes t (bytes ++ more) ≡ obeyed_bytes (obeyed_bytes t bytes) more }
+{}
+
+/// Characters in UTF-8 end between characters.
+pub fn end_encoded()
+    ensures { (chars : List ℕ) → AreScalars chars → read_after between chars ≡ between → EndBetween (encode_utf8_all chars) }
 {}
 
 /// Characters in UTF-8 are read back.
 pub fn read_back()
     ensures { (chars bytes : List ℕ) → AreScalars chars
-        → lossy_chars (encode_utf8_all chars ++ bytes) ≡ chars ++ lossy_chars bytes }
+        → chars_of (encode_utf8_all chars ++ bytes) ≡ chars ++ chars_of bytes }
 {}
 
 /// Controls are done one after the other.

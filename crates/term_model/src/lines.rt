@@ -1,5 +1,6 @@
 //! Lines of cells, and what printing and erasing write into them.
 ghost use Rattle.std.specs.Prelude.{◌≡◌, ◌<◌, ◌≤◌, ◌+◌, ◌-◌, ◌∷◌, ◌++◌, [], ◌⊎◌, ℕ, length, replicate, slice_set, vec_len, slice_get, take, IfOk, IsSomeAnd, OnOk, OnErr};
+ghost use Rattle.cell_grid.specs.Attrs.{plain};
 ghost use Rattle.cell_grid.specs.Cell.{IsLead, spread};
 ghost use Rattle.cell_grid.specs.Row.{IsWhole, laid_at, put_at};
 ghost use Rattle.cell_grid.specs.Grid.{AllRows, blank_rows, row_at, put_in};
@@ -9,31 +10,32 @@ ghost use Rattle.term_model.specs.Obeying.{wiped, joined_row};
 use cell_grid::{Attrs, Cell, CellRow, NoMemory};
 use std::alloc::Global;
 
-/// A space with the pen's background and no other attribute.
-pub(crate) fn wiped(pen: Attrs) -> Cell
-    ensures { result ≡ wiped pen }
+/// Returns the pen's background with no other attribute.
+fn background(pen: Attrs) -> Attrs
+    ensures { result ≡ record plain { bg = pen.bg } }
 {
-    Cell::narrow(
-        ' ',
-        Attrs {
-            bg: pen.bg,
-            ..Attrs::plain()
-        },
-    )
+    Attrs {
+        bg: pen.bg,
+        ..Attrs::plain()
+    }
 }
 
-/// A row of such spaces.
+/// Returns a space with the pen's background and no other attribute.
+fn wiped(pen: Attrs) -> Cell
+    ensures { result ≡ wiped pen }
+{
+    Cell::narrow(' ', background(pen))
+}
+
+/// Returns a row of such spaces.
 pub(crate) fn wiped_row(alloc: Global, cols: usize, pen: Attrs) -> Result<CellRow, NoMemory>
     ensures { IfOk result (λ row. row ≡ replicate cols (wiped pen)) }
 {
-    let mut row = CellRow::new(alloc);
-    for _ in 0..cols {
-        row.push(wiped(pen))?;
-    }
+    let row = CellRow::filled(alloc, ' ', background(pen), cols)?;
     Ok(row)
 }
 
-/// Rows of blanks.
+/// Returns rows of blanks.
 pub(crate) fn blank_rows(alloc: Global, rows: usize, cols: usize) -> Result<Vec<CellRow>, NoMemory>
     ensures { IfOk result (λ lines. lines.items ≡ blank_rows rows cols) }
 {

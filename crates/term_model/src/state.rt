@@ -1,5 +1,5 @@
 //! The state of a terminal, and what each control does to it.
-use crate::fitting::fitted_lines;
+use crate::fitting::fit_lines;
 use crate::lines::{erase_in, erase_lines, join_in, put_in, wiped_row};
 use crate::reading::{Control, first_control};
 use crate::rendition::styled;
@@ -27,12 +27,11 @@ impl State {
     ghost use Rattle.std.specs.Prelude.{◌≡◌, ◌+◌, ◌<◌, ◌⊎◌, OnOk, OnErr};
     ghost use Rattle.term_model.specs.Term.{IsTerminal};
     ghost use Rattle.term_model.specs.Fields.{term_of};
-    ghost use Rattle.term_model.specs.Obeying.{forgotten, moved, fed, erased_in_line, erased_in_page, wrapped, placed, joined, printed, act, acted, obeyed};
-    ghost use Rattle.bstr.specs.Utf8.{lossy_chars};
+    ghost use Rattle.term_model.specs.Obeying.{forgotten, moved, fed, erased_in_line, erased_in_page, wrapped, placed, joined, printed, act, obeyed_bytes};
     ghost use Rattle.cell_grid.specs.Size.{IsScreen};
     ghost use Rattle.term_model.specs.Resizing.{resized};
     ghost use Rattle.term_model.specs.Controls.{DECAWM, DECTCEM, BracketedPaste};
-    ghost use Rattle.term_model.specs.Meaning.{meant, meant_by};
+    ghost use Rattle.term_model.specs.Meaning.{meant};
 
     /// Forgets the pending wrap and the place printed last.
     fn forget(&mut self)
@@ -168,7 +167,7 @@ impl State {
     /// Does what a control says.
     pub(crate) fn act(&mut self, control: Control<'_>) -> Result<(), NoMemory>
         requires { IsTerminal (term_of self.old) }
-        ensures ok { OnOk result (term_of self.new ≡ acted (term_of self.old) (meant control.entry)) }
+        ensures ok { OnOk result (term_of self.new ≡ act (term_of self.old) (meant control.entry)) }
         ensures err { OnErr result (term_of self.new ≡ term_of self.old) }
     {
         match control {
@@ -185,6 +184,7 @@ impl State {
             Control::AutoWrap(on) => self.set_wraps(on),
             Control::CursorVisible(on) => self.set_visible(on),
             Control::BracketedPaste(on) => self.set_pasting(on),
+            Control::Ignored => self.forget(),
             Control::Print(c) => return self.print(c),
         }
         Ok(())
@@ -211,28 +211,15 @@ impl State {
         self.forget();
     }
 
-    /// Does what a control says, if there is one.
-    fn act_on(&mut self, control: Option<Control<'_>>) -> Result<(), NoMemory>
-        requires { IsTerminal (term_of self.old) }
-        ensures ok { OnOk result (term_of self.new ≡ acted (term_of self.old) (meant_by control.entry)) }
-        ensures err { OnErr result (term_of self.new ≡ term_of self.old) }
-    {
-        match control {
-            None => Ok(()),
-            Some(control) => self.act(control),
-        }
-    }
-
     /// Does what some bytes say.
     pub(crate) fn obey(&mut self, bytes: &[u8]) -> Result<(), NoMemory>
         requires { IsTerminal (term_of self.old) }
-        ensures obeyed { OnOk result (term_of self.new ≡ obeyed (term_of self.old) (lossy_chars bytes.now)) }
+        ensures obeyed { OnOk result (term_of self.new ≡ obeyed_bytes (term_of self.old) bytes.now) }
         ensures kept { IsTerminal (term_of self.new) }
     {
         let mut rest = bytes;
-        while !rest.is_empty() {
-            let (control, size) = first_control(rest);
-            self.act_on(control)?;
+        while let Some((control, size)) = first_control(rest) {
+            self.act(control)?;
             let (_, behind) = rest.split_at(size);
             rest = behind;
         }
@@ -250,9 +237,7 @@ impl State {
         let cols = size.cols() as usize;
         let lost = (self.row + 1).saturating_sub(rows);
         let top = self.top + lost;
-        let alloc = *self.lines.allocator();
-        let lines = fitted_lines(alloc, &self.lines, top + rows, cols)?;
-        self.lines = lines;
+        fit_lines(&mut self.lines, self.cols, top + rows, cols)?;
         self.rows = rows;
         self.cols = cols;
         self.top = top;

@@ -24,12 +24,11 @@ impl Model for Terminal {
 
 impl Terminal {
     ghost use Rattle.std.specs.Prelude.{◌≡◌, ◌<◌, Some, length, IfOk, OnOk, OnErr, slice_get};
-    ghost use Rattle.bstr.specs.Utf8.{lossy_chars};
     ghost use Rattle.term_model.specs.Term.{IsTerminal, start_of};
-    ghost use Rattle.term_model.specs.Obeying.{obeyed};
+    ghost use Rattle.term_model.specs.Obeying.{obeyed_bytes};
     ghost use Rattle.term_model.specs.Resizing.{resized};
 
-    /// A terminal on which nothing was printed: its lines are blank, and the cursor stands in the
+    /// Returns a terminal on which nothing was printed: its lines are blank, and the cursor stands in the
     /// first column of the first row.
     pub fn start(alloc: Global, size: Size) -> Result<Terminal, NoMemory>
         ensures start { IfOk result (λ terminal. terminal ≡ start_of size) }
@@ -56,11 +55,11 @@ impl Terminal {
     }
 
     /// Does what the bytes say. They are read as UTF-8, with U+FFFD for each maximal part that is
-    /// none, and a control sequence that they do not finish does nothing.
+    /// none. A character and a control sequence that they do not finish do nothing.
     ///
     /// Without memory some of the bytes may have been obeyed.
     pub fn obey(&mut self, bytes: &[u8]) -> Result<(), NoMemory>
-        ensures obeyed { OnOk result (self.new ≡ obeyed self.old (lossy_chars bytes.now)) }
+        ensures obeyed { OnOk result (self.new ≡ obeyed_bytes self.old bytes.now) }
         ensures kept { IsTerminal self.new }
     {
         self.state.obey(bytes)?;
@@ -70,7 +69,8 @@ impl Terminal {
     /// Takes another size. Each line is cut or padded to its columns. The window moves down where
     /// it has become too low for the cursor's line, and lines below it are dropped.
     ///
-    /// Its time is that of going through all lines, those above the window included.
+    /// Where the columns stay, its time is that of the rows that come or go. Else it goes through all lines, those above the
+    /// window included.
     pub fn resize(&mut self, size: Size) -> Result<(), NoMemory>
         ensures resized { OnOk result (self.new ≡ resized self.old size) }
         ensures err { OnErr result (self.new ≡ self.old) }
@@ -80,7 +80,17 @@ impl Terminal {
         Ok(())
     }
 
-    /// How many lines there are, those above the window included.
+    /// Returns the size of the window.
+    pub fn size(&self) -> Size
+        ensures { result ≡ record { rows = self.now.rows; cols = self.now.cols } }
+    {
+        match Size::new(self.state.rows as u32, self.state.cols as u32) {
+            Some(size) => size,
+            None => unreachable!(),
+        }
+    }
+
+    /// Returns how many lines there are, those above the window included.
     pub fn lines(&self) -> usize
         ensures value { result ≡ length self.now.lines }
         ensures kept { IsTerminal self.now }
@@ -88,14 +98,14 @@ impl Terminal {
         self.state.lines.len()
     }
 
-    /// The first line that the window shows.
+    /// Returns the first line that the window shows.
     pub fn top(&self) -> usize
         ensures { result ≡ self.now.top }
     {
         self.state.top
     }
 
-    /// One of the lines, from the first on.
+    /// Returns one of the lines, from the first on.
     pub fn line(&self, i: usize) -> &CellRow
         requires { i < length self.now.lines }
         ensures { slice_get self.now.lines i ≡ Some result.now }
@@ -103,7 +113,7 @@ impl Terminal {
         &self.state.lines[i]
     }
 
-    /// The cursor's row in the window, and its column.
+    /// Returns the cursor's row in the window, and its column.
     pub fn cursor(&self) -> (u32, u32)
         ensures row { result.0 ≡ self.now.row }
         ensures col { result.1 ≡ self.now.col }
@@ -111,28 +121,28 @@ impl Terminal {
         (self.state.row as u32, self.state.col as u32)
     }
 
-    /// The attributes of what is printed next.
+    /// Returns the attributes of what is printed next.
     pub fn pen(&self) -> Attrs
         ensures { result ≡ self.now.pen }
     {
         self.state.pen
     }
 
-    /// Whether a line goes on behind its last column.
+    /// Tells whether a line goes on behind its last column.
     pub fn wraps(&self) -> bool
         ensures { result ≡ self.now.wraps }
     {
         self.state.wraps
     }
 
-    /// Whether the cursor is visible.
+    /// Tells whether the cursor is visible.
     pub fn shows_cursor(&self) -> bool
         ensures { result ≡ self.now.visible }
     {
         self.state.visible
     }
 
-    /// Whether pasted text comes between marks.
+    /// Tells whether pasted text comes between marks.
     pub fn marks_pastes(&self) -> bool
         ensures { result ≡ self.now.pasting }
     {

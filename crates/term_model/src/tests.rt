@@ -1,6 +1,6 @@
 //! Screens that were worked out by hand from what each control is to do.
 use crate::Terminal;
-use cell_grid::{Attrs, Cell, CellRow, Colour, Size};
+use cell_grid::{Attrs, Cell, CellRow, Colour, Grid, Size};
 use std::alloc::{AllocError, Global};
 use std::test::Fail;
 
@@ -46,16 +46,22 @@ fn obeyed(alloc: Global, bytes: &[u8]) -> Result<Terminal, Fail> {
 }
 
 /// What is shown after some text, as `shown` says it.
-const SCREENS: [(&str, &str); 54] = [
+const SCREENS: [(&str, &str); 61] = [
     ("", "|....|....| 0,0 0"),
     ("ab", "|ab..|....| 0,2 0"),
-    // a pending wrap: done by the next character, forgotten by CR, kept by what does nothing
+    // a pending wrap: done by the next character, kept by attributes, forgotten by all else
     ("abcd", "|abcd|....| 0,3 0"),
     ("abcde", "|abcd|e...| 1,1 0"),
     ("abcd\re", "|ebcd|....| 0,1 0"),
     ("abcd\u{1b}[De", "|abed|....| 0,3 0"),
-    ("abcd\u{7}e", "|abcd|e...| 1,1 0"),
     ("abcd\u{1b}[1me", "|abcd|e...| 1,1 0"),
+    ("abcd\u{1b}[2me", "|abcd|e...| 1,1 0"),
+    ("abcd\u{7}e", "|abce|....| 0,3 0"),
+    ("abcd\u{85}e", "|abce|....| 0,3 0"),
+    ("abcd\u{1b}ce", "|abce|....| 0,3 0"),
+    ("abcd\u{1b}[6ne", "|abce|....| 0,3 0"),
+    ("abcd\u{1b}[?1me", "|abce|....| 0,3 0"),
+    ("abcd\u{1b}[3\u{e9}", "|abc\u{e9}|....| 0,3 0"),
     // LF, also on the last row
     ("ab\ncd", "|ab..|..cd| 1,3 0"),
     ("a\n\nb", "|a...|....|.b..| 1,2 1"),
@@ -115,6 +121,7 @@ const SCREENS: [(&str, &str); 54] = [
     ("\u{4e16}\u{301}", "|\u{4e16}\u{301}~..|....| 0,2 0"),
     ("abcd\u{301}", "|abcd\u{301}|....| 0,3 0"),
     ("a\r\u{301}", "|a...|....| 0,0 0"),
+    ("a\u{7}\u{301}", "|a...|....| 0,1 0"),
     ("\u{301}", "|....|....| 0,0 0"),
     // a character of more than two columns
     ("\u{17d8}a", "|\u{fffd}a..|....| 0,2 0"),
@@ -194,6 +201,54 @@ fn sets_the_pen(rt: HostRuntime) -> Result<(), Fail> {
         let terminal = obeyed(rt.alloc(), text.as_bytes())?;
         assert!(rt; terminal.pen() == expected, "{sequence}");
     }
+    Ok(())
+}
+
+/// What is shown after some bytes and then some others: an unfinished character or sequence at the end of the first does nothing.
+const IN_TWO_CALLS: [(&[u8], &[u8], &str); 6] = [
+    (b"a\xe4\xb8", b"b", "|ab..|....| 0,2 0"),
+    (b"a\xe4", b"\xb8\x96", "|a\u{fffd}\u{fffd}.|....| 0,3 0"),
+    (b"abcd\x1b[3\xe4", b"e", "|abcd|e...| 1,1 0"),
+    (b"abcd\x1b[3", b"e", "|abcd|e...| 1,1 0"),
+    (b"abcd\x1b", b"[De", "|abcd|[De.| 1,3 0"),
+    (b"a\x1b[41m", b"\x1b[K", "|a%%%|....| 0,1 0"),
+];
+
+#[test]
+fn obeys_in_two_calls(rt: HostRuntime) -> Result<(), Fail> {
+    let alloc = rt.alloc();
+    for (first, second, expected) in IN_TWO_CALLS {
+        let mut terminal = obeyed(alloc, first)?;
+        terminal.obey(second)?;
+        assert_eq!(rt; shown(alloc, &terminal)?.as_str(), expected, "{first:?}");
+    }
+    Ok(())
+}
+
+/// The largest screen, filled, and then in other sizes.
+#[test]
+fn holds_the_largest_screen(rt: HostRuntime) -> Result<(), Fail> {
+    let alloc = rt.alloc();
+    let size = Size::new(500, 1000).ok_or("size")?;
+    let mut terminal = Terminal::start(alloc, size)?;
+    let text = vec![in alloc; b'x'; 500_000]?;
+    terminal.obey(text.as_slice())?;
+    assert!(rt; terminal.size() == size);
+    assert!(rt; terminal.lines() == 500 && terminal.top() == 0);
+    assert_eq!(rt; terminal.cursor(), (499, 999));
+    let full = CellRow::filled(alloc, 'x', Attrs::plain(), 1000)?;
+    assert!(rt; terminal.line(499).as_slice() == full.as_slice());
+    for (rows, cols, lines) in [(400, 1000, 500), (500, 1000, 600), (500, 999, 600)] {
+        let size = Size::new(rows, cols).ok_or("size")?;
+        terminal.resize(size)?;
+        assert!(rt; terminal.size() == size);
+        assert_eq!(rt; terminal.lines(), lines);
+    }
+    let mut grid = Grid::blank(alloc, 500, 1000)?;
+    assert!(rt; grid.rows() == 500 && grid.cols() == 1000 && full.len() == 1000);
+    grid.lay(499, 0, full.as_slice());
+    assert!(rt; grid.rows() == 500);
+    assert!(rt; grid.row(499) == full.as_slice());
     Ok(())
 }
 
