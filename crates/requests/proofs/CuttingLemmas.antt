@@ -18,7 +18,7 @@ use Rattle.requests.specs.Requests.{RequestFields}
 use Rattle.requests.specs.Whole.{completions_of, completions_for, answer_by, answer_to}
 use Rattle.requests.specs.Batching.{batch_of, needed_batches, count_in, part_of, batch_count, items_of}
 use Rattle.requests.specs.Batches.{IsBatch, batch_at, numbered}
-use Rattle.requests.specs.Answers.{parts_left}
+use Rattle.requests.specs.Answers.{after_batch, parts_left}
 
 -- each part starts within the completions
 pub starts_within : (len number : ℕ) → number < needed_batches len → 64 * number ≤ len
@@ -88,6 +88,25 @@ pub length-parts_left : (answer : Items) (left : ℕ) → length (parts_left ans
 length-parts_left answer zero = refl
 length-parts_left answer (suc left) =
     omega (arith, length-append (parts_left answer left) (part_of answer (count_in answer - suc left) ∷ []), length-parts_left answer left)
+
+-- where no part is left, all batches were given
+pub none_left : (request : RequestFields) (given : ℕ) (parts : List Items) → given ≤ batch_count request
+    → parts ≡ parts_left (answer_to request) (batch_count request - given) → length parts ≡ 0 → batch_count request ≡ given
+none_left request given parts within is none =
+    omega (arith, within, none, ap length is, length-parts_left (answer_to request) (batch_count request - given))
+
+-- then there is no next batch
+pub none_numbered : (request : RequestFields) (given : ℕ) → batch_count request ≡ given → None ≡ numbered request given
+none_numbered request given all =
+    let past : nat_lt given (batch_count request) ≡ false = grind (arith, nat_tests) in
+    ap (λ b. cond b (Some (batch_at request given)) None) (sym past)
+
+-- and asking for it leaves the answer as it is
+pub given_all : (request : RequestFields) (given : ℕ) → batch_count request ≡ given
+    → record { request = request; given = given } ≡ after_batch (record { request = request; given = given })
+given_all request given all =
+    let same : given ≡ min (given + 1) (batch_count request) = omega (arith, all) in
+    ap (λ (n : ℕ). record { request = request; given = n }) same
 
 -- one more part cut from the end
 pub cut_more : (items : List Completion) (behind at : ℕ) (left kept part : List Completion) (parts more : List Items)
