@@ -1,3 +1,4 @@
+//! Colours and the attributes of a cell.
 /// A colour of a character or of its background.
 #[derive(Clone, Copy, Debug)]
 pub enum Colour {

@@ -1,3 +1,4 @@
+//! A cell: a character of one or two columns with those that join it, or the second half of a wide one.
 use crate::{Attrs, CellText};
 
 /// One place of a screen.

@@ -1,3 +1,4 @@
+//! A row of cells. A clause sees it as the list of its cells.
 ghost use Rattle.std.specs.Prelude.{◌≡◌, ◌+◌, ◌≤◌, ◌++◌, OnOk, OnErr, length};
 ghost use Rattle.cell_grid.specs.Cell.{IsLead, spread};
 ghost use Rattle.cell_grid.specs.Row.{IsWhole, put_at};

@@ -1,3 +1,4 @@
+//! The characters of one cell. A clause sees them as their list.
 use std::marker::Model;
 
 /// The characters of one cell: a character and those that join it. It takes no memory.

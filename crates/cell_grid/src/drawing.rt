@@ -1,3 +1,4 @@
+//! A drawing: a grid and the place of the cursor in it.
 use crate::Grid;
 
 /// What is to be shown: a grid, and the row and the column of the cursor.

@@ -1,3 +1,4 @@
+//! A part of a line of text that is drawn with the same attributes.
 use crate::Attrs;
 use sequences::Text;
 

@@ -1,3 +1,4 @@
+//! A grid of cells. A clause sees it as the list of its rows.
 ghost use Rattle.std.specs.Prelude.{◌≡◌, ◌*◌, ◌<◌, ◌≤◌, ◌+◌, ◌++◌, length, take, drop};
 ghost use Rattle.cell_grid.specs.Row.{laid_at};
 

@@ -1,3 +1,4 @@
+//! The size of a screen. A clause sees it as its rows and columns.
 use std::marker::Model;
 
 /// The size of a terminal's screen, in rows and columns.

@@ -1,3 +1,4 @@
+//! Cells of texts, rows and grids worked out by hand, and each call that allocates once with ample memory.
 ghost use Rattle.std.specs.Prelude.{◌≡◌, length};
 ghost use Rattle.cell_grid.specs.Cell.{IsLead, spread};
 

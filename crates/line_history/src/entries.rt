@@ -1,4 +1,4 @@
-// The bytes of an entry.
+//! The bytes of an entry.
 ghost use Rattle.std.specs.Prelude.{◌≡◌, ◌++◌, ◌≤◌, [], ◌∷◌, List, ℕ, true, length, IfOk, OnOk, string_bytes};
 ghost use Rattle.text_doc.specs.declared.documents.TheConstants.{MAX_LENGTH};
 ghost use Rattle.line_history.specs.History.{entries_of, entry_bytes};

@@ -1,4 +1,4 @@
-// The entries of a history file.
+//! The entries of a history file.
 ghost use Rattle.std.specs.Prelude.{◌≡◌, ◌<◌, [], ◌∷◌, ◌==◌, length, position, IfOk, IfSome, MatchOption};
 ghost use Rattle.line_history.specs.History.{entries_of, lines_of};
 

@@ -1,4 +1,4 @@
-// Where the bytes of a history file are kept.
+//! Where the bytes of a history file are kept.
 ghost use Rattle.std.specs.Prelude.{◌≡◌, ◌++◌, ℕ, List, Some, Option, IfOk, OnOk, OnErr};
 ghost use Rattle.std.specs.Option.{ForSome};
 ghost use Rattle.std.specs.Result.{IsErrOf};

@@ -1,4 +1,4 @@
-// How the lines of a history file become entries, one line after the other.
+//! How the lines of a history file become entries, one line after the other.
 ghost use Rattle.std.specs.Prelude.{◌≡◌, ◌+◌, ◌≤◌, ◌++◌, [], ◌∷◌, List, ℕ, Option, None, true, length, IfOk, OnOk};
 ghost use Rattle.std.specs.Option.{ForSome};
 ghost use Rattle.bstr.specs.Utf8.{lossy_chars};

@@ -1,4 +1,4 @@
-// Playing the events of a script over a model of a terminal.
+//! Playing the events of a script over a model of a terminal.
 ghost use Rattle.std.specs.Prelude.{◌≡◌, ◌≤◌, ◌++◌, ℕ, IfOk, OnOk, List, is_some};
 ghost use Rattle.diff_render.specs.Frames.{WasDrawnAt, screen_after};
 ghost use Rattle.session_core.specs.Draw.{draw};

@@ -1,4 +1,4 @@
-// Replaying a script from a source.
+//! Replaying a script from a source.
 ghost use Rattle.std.specs.Prelude.{◌≡◌, ◌≤◌, ◌↔◌, None, map, string_bytes};
 ghost use Rattle.causes.specs.Faults.{Rose};
 ghost use Rattle.prompt_run.specs.Replay.{Replays, asks_frames};

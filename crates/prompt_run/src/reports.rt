@@ -1,4 +1,4 @@
-// The printed text of a terminal's screen.
+//! The printed text of a terminal's screen.
 ghost use Rattle.std.specs.Prelude.{◌≡◌, ◌+◌, ◌≤◌, ◌<◌, ◌++◌, max, length, take, drop, flat_map, map, IfOk, OnOk};
 ghost use Rattle.prompt_run.specs.Report.{text_of, behind_last, is_ink, trimmed, has_text, reported, report_row, heading, row_texts, report_of};
 

@@ -1,4 +1,4 @@
-// A script from its first line to its last, and what it prints.
+//! A script from its first line to its last, and what it prints.
 ghost use Rattle.std.specs.Prelude.{◌≡◌, ◌+◌, ◌<◌, ◌≤◌, ◌^◌, ◌++◌, ◌&&◌, ◌==◌, length, None, if◌then◌else◌, is_some, flat_map, IfOk, OnOk};
 ghost use Rattle.std.specs.List.{list_all};
 ghost use Rattle.prompt_settings.specs.Settings.{no_settings};

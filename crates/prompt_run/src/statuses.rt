@@ -1,4 +1,4 @@
-// How a run ended, as a number that a program can exit with.
+//! How a run ended, as a number that a program can exit with.
 
 /// The status of a run: one of the numbers below.
 pub type Status = u8;

@@ -1,4 +1,4 @@
-// The terminal of a replay, as a screen.
+//! The terminal of a replay, as a screen.
 ghost use Rattle.prompt_run.specs.Terminals.{Obeys, Keeps};
 
 use ports::{Failed, Screen};

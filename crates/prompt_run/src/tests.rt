@@ -1,4 +1,4 @@
-// Runs over an outside in memory, with faults where none is expected to do harm.
+//! Runs over an outside in memory, with faults where none is expected to do harm.
 
 use super::*;
 use cell_grid::Size;

@@ -1,4 +1,4 @@
-// One turn: an event, the step that it makes, and the frame that shows the state after it.
+//! One turn: an event, the step that it makes, and the frame that shows the state after it.
 ghost use Rattle.std.specs.Prelude.{◌≡◌, ◌≤◌, ◌↔◌, IsTrue, Err, IfOk, IfErr, OnOk, is_some};
 ghost use Rattle.causes.specs.Faults.{Rose};
 ghost use Rattle.diff_render.specs.Frames.{WasDrawnAt, screen_after};

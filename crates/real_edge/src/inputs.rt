@@ -1,4 +1,4 @@
-// A reader of the system as a source.
+//! A reader of the system as a source.
 ghost use Rattle.std.specs.Prelude.{None};
 ghost use Rattle.std.specs.Io.{ReadsAtMost};
 

@@ -1,4 +1,4 @@
-// The adapters over a reader and a writer in memory.
+//! The adapters over a reader and a writer in memory.
 
 use super::*;
 use ports::{Sink, Source};

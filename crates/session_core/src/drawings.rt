@@ -1,4 +1,4 @@
-// The drawing of a state: the rows of its line that the buffer's window shows.
+//! The drawing of a state: the rows of its line that the buffer's window shows.
 ghost use Rattle.std.specs.Prelude.{◌≡◌, ◌+◌, ◌≤◌, ◌++◌, ℕ, List, true, codes, length, IfOk, OnErr, OnOk};
 ghost use Rattle.std.specs.List.{All, list_all};
 ghost use Rattle.cell_grid.specs.Grid.{columns};

@@ -1,4 +1,4 @@
-// What a key does to the document.
+//! What a key does to the document.
 ghost use Rattle.std.specs.Prelude.{◌≡◌, ◌≤◌, true, length, OnErr, OnOk};
 ghost use Rattle.text_doc.specs.declared.documents.TheConstants.{MAX_LENGTH};
 ghost use Rattle.session_core.specs.Keys.{edited, erased, is_printable, typed, HasDoneNothing};

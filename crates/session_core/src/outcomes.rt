@@ -1,4 +1,4 @@
-// How a prompt ends, and why a step is refused.
+//! How a prompt ends, and why a step is refused.
 
 use text_doc::Text;
 use thiserror::Error;

@@ -1,4 +1,4 @@
-// A session: its state, and what an event does to it.
+//! A session: its state, and what an event does to it.
 
 use crate::drawings::{draw_window, plain_row};
 use crate::edits::edit;

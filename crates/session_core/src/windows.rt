@@ -1,4 +1,4 @@
-// How far the buffer's window is scrolled, reckoned from the number of characters.
+//! How far the buffer's window is scrolled, reckoned from the number of characters.
 ghost use Rattle.std.specs.Prelude.{◌≡◌, ◌+◌, ◌≤◌, ℕ, List, true, length};
 ghost use Rattle.std.specs.List.{list_all};
 ghost use Rattle.text_doc.specs.Document.{IsDocument};

@@ -1,3 +1,4 @@
+//! The terminal that others see: what it obeys, and its lines.
 use crate::lines::blank_rows;
 use crate::state::State;
 use cell_grid::{Attrs, CellRow, NoMemory, Size};

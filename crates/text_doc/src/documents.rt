@@ -31,7 +31,7 @@ impl Model for Doc {
 }
 
 impl Doc {
-    /// Returns a document of this text without a mark, in the text's memory. The text is walked once for its rows.
+    /// Returns a document of this text without a mark, in the text's memory.
     pub fn new(_alloc: Global, text: Text, cursor: usize) -> Result<Doc, NoMemory>
         requires place { cursor ≤ length text }
         requires short { length text ≤ 32768 }

@@ -1,4 +1,4 @@
-//! Rows and columns, by the index of a text and at most one walk of a row.
+//! Rows and columns, by walks of the text: of one row for its start and end, and of the text before it for its number.
 ghost use Rattle.std.specs.Prelude.{◌≡◌, ◌<◌, ◌≤◌, length, IfSome};
 ghost use Rattle.text_doc.specs.Rows.{line_start, line_end, row_of, row_start, index_of, up, down};
 
