@@ -3,7 +3,7 @@ use Rattle.std.proofs.Common.{◌≡◌, ℕ, ◌≤◌, Bool, true, false, cond
 use Rattle.std.proofs.lemmas.Bool.{ltb-true}
 use Rattle.std.proofs.lemmas.Bool.Decides.{nat_tests}
 use Rattle.std.specs.Prelude.{IfSome, IsTrue}
-use Rattle.job_desk.specs.Requests.{RequestFields}
+use Rattle.requests.specs.Requests.{RequestFields}
 use Rattle.job_desk.specs.Desks.{DeskFields, IsDesk, new_desk, placed, is_id, is_live}
 use Rattle.job_desk.specs.Laws.{Call, post, cancel, take, close, after_call, after_calls}
 

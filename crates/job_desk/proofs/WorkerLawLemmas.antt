@@ -8,17 +8,14 @@ use Rattle.std.proofs.lemmas.List.Sums.{sum_by-append}
 use Rattle.std.specs.Prelude.{count_by}
 use Rattle.std.specs.List.{list_all}
 use Prim.Native.Nat.{zero, suc}
-use Rattle.job_desk.specs.Batches.{batch_at}
-use Rattle.job_desk.specs.Batching.{batch_count, count_by as batches_by, is_last}
-use Rattle.job_desk.specs.declared.requests.Kind.{Kind}
-use Rattle.job_desk.specs.declared.requests.Kind.TheVariants.{Complete, Suggest, Check}
-use Rattle.job_desk.specs.Requests.{RequestFields}
-use Rattle.job_desk.specs.Ends.{SenderFields}
-use Rattle.job_desk.specs.Posts.{Seen}
-use Rattle.job_desk.specs.Answering.{Share, requests_of, answers, all_answers, Ran, Served}
+use Rattle.requests.specs.Batches.{batch_at}
+use Rattle.requests.specs.Batching.{batch_count, is_last}
+use Rattle.requests.specs.Requests.{RequestFields}
+use Rattle.job_desk.specs.Answering.{Share, AtWork, requests_of, answers, all_answers, Ran, Served}
 use Rattle.job_desk.specs.WorkerLaws.{is_answer, is_last_batch, for_memory, FewCutShort, AnswersAlone, AreAnswersTo, AnswersInOrder, AreExplained, CutShortWhereDead}
 use Rattle.job_desk.specs.declared.letters.Letter.{Letter}
 use Rattle.job_desk.specs.declared.letters.Letter.TheVariants.{Answer}
+use Rattle.job_desk.proofs.WorkerLemmas.{some_batch}
 
 abbrev flag : Bool → ℕ
 flag b = cond b 1 0
@@ -53,36 +50,31 @@ lasts_whole r n whole =
     let is : is_last r n ≡ true = is_the_last r n (omega (arith, whole)) in
     lasts_snoc r n ∙ omega (arith, before, ap flag is)
 
-some_by : (kind : Kind) (r : RequestFields) → 0 < batches_by kind r
-some_by Complete r = omega arith
-some_by Suggest r = omega arith
-some_by Check r = omega arith
-
 lasts_all : (r : RequestFields) (n : ℕ) → n ≡ batch_count r → lasts (answers r n) ≡ 1
-lasts_all r zero whole = absurd (omega (arith, whole, some_by r.kind r))
+lasts_all r zero whole = absurd (omega (arith, whole, some_batch r))
 lasts_all r (suc n) whole = lasts_whole r n whole
 
 -- as many requests were answered whole as there are last batches; the others are dead, or one is where memory failed
 whole_ones : (xs : List Share) (dead : List ℕ) (failed : Bool) → Ran xs dead failed → lasts (all_answers xs) ≤ length xs
 whole_ones [] dead failed ran = omega arith
-whole_ones (x ∷ xs) dead failed (inl (whole, ran)) =
+whole_ones (x ∷ xs) dead failed (inl (whole, alone, ran)) =
     omega (arith, lasts_append (answers x.request x.count) (all_answers xs), lasts_all x.request x.count whole, whole_ones xs dead failed ran)
-whole_ones (x ∷ xs) dead failed (inr (inl (more, cut, is, ran))) =
+whole_ones (x ∷ xs) dead failed (inr (inl (more, cut, alone, is, ran))) =
     omega (arith, lasts_append (answers x.request x.count) (all_answers xs), lasts_cut x.request x.count cut, whole_ones xs more failed ran)
-whole_ones (x ∷ xs) dead failed (inr (inr (cut, failing, none, nil))) =
+whole_ones (x ∷ xs) dead failed (inr (inr (cut, unsent, failing, none, nil))) =
     omega (arith, lasts_append (answers x.request x.count) (all_answers xs), lasts_cut x.request x.count cut, ap (λ (l : List Share). lasts (all_answers l)) nil)
 
 others : (xs : List Share) (dead : List ℕ) (failed : Bool) → Ran xs dead failed → length xs ≤ lasts (all_answers xs) + length dead + for_memory failed
 others [] dead failed ran = omega arith
-others (x ∷ xs) dead failed (inl (whole, ran)) =
+others (x ∷ xs) dead failed (inl (whole, alone, ran)) =
     omega (arith, lasts_append (answers x.request x.count) (all_answers xs), lasts_all x.request x.count whole, others xs dead failed ran)
-others (x ∷ xs) dead failed (inr (inl (more, cut, is, ran))) =
+others (x ∷ xs) dead failed (inr (inl (more, cut, alone, is, ran))) =
     omega (arith, lasts_append (answers x.request x.count) (all_answers xs), lasts_cut x.request x.count cut, others xs more failed ran, ap (λ (l : List ℕ). length l) is)
-others (x ∷ xs) dead failed (inr (inr (cut, failing, none, nil))) =
+others (x ∷ xs) dead failed (inr (inr (cut, unsent, failing, none, nil))) =
     omega (arith, lasts_append (answers x.request x.count) (all_answers xs), lasts_cut x.request x.count cut, ap (λ (l : List Share). length l) nil, ap for_memory failing)
 
-pub few_cut_short : (old new : Seen) (before after : SenderFields) (failed : Bool) (behind : List Letter) → Served old new before after failed behind → FewCutShort old new before after failed behind
-few_cut_short old new before after failed behind s =
+pub few_cut_short : (old new : AtWork) (failed : Bool) (behind : List Letter) → Served old new failed behind → FewCutShort old new failed behind
+few_cut_short old new failed behind s =
     let one = whole_ones s.shares s.dead failed s.ran in
     let two = others s.shares s.dead failed s.ran in
     record {
@@ -90,7 +82,7 @@ few_cut_short old new before after failed behind s =
       taken = length s.shares;
       died = length s.dead;
       sent = s.sent;
-      taken_are = s.gave.taken ∙ ap (λ (n : ℕ). old.taken + n) (length-map s.shares (λ (x : Share). x.request));
+      taken_are = s.gave.taken ∙ ap (λ (n : ℕ). old.post.taken + n) (length-map s.shares (λ (x : Share). x.request));
       died_are = s.gave.died;
       whole = one;
       few = omega (arith, one, two);
@@ -108,19 +100,19 @@ all_are (x ∷ xs) =
     list_all-append is_answer (answers x.request x.count) (all_answers xs)
     ∙ (ap (λ (b : Bool). b && list_all is_answer (all_answers xs)) (answers_are x.request x.count) ∙ all_are xs)
 
-pub answers_only : (old new : Seen) (before after : SenderFields) (failed : Bool) (behind : List Letter) → Served old new before after failed behind → AnswersAlone old new before after failed behind
-answers_only old new before after failed behind s = record { letters = all_answers s.shares; sent = s.sent; answers = all_are s.shares }
+pub answers_only : (old new : AtWork) (failed : Bool) (behind : List Letter) → Served old new failed behind → AnswersAlone old new failed behind
+answers_only old new failed behind s = record { letters = all_answers s.shares; sent = s.sent; answers = all_are s.shares }
 
 -- the answers of shares stand in order
 ordered : (xs : List Share) (dead : List ℕ) (failed : Bool) → Ran xs dead failed → AreAnswersTo (requests_of xs) (all_answers xs)
 ordered [] dead failed ran = refl
-ordered (x ∷ xs) dead failed (inl (whole, ran)) = (x.count, all_answers xs, omega (arith, whole), refl, ordered xs dead failed ran)
-ordered (x ∷ xs) dead failed (inr (inl (more, cut, is, ran))) = (x.count, all_answers xs, omega (arith, cut), refl, ordered xs more failed ran)
-ordered (x ∷ xs) dead failed (inr (inr (cut, failing, none, nil))) =
+ordered (x ∷ xs) dead failed (inl (whole, alone, ran)) = (x.count, all_answers xs, omega (arith, whole), refl, ordered xs dead failed ran)
+ordered (x ∷ xs) dead failed (inr (inl (more, cut, alone, is, ran))) = (x.count, all_answers xs, omega (arith, cut), refl, ordered xs more failed ran)
+ordered (x ∷ xs) dead failed (inr (inr (cut, unsent, failing, none, nil))) =
     (x.count, all_answers xs, omega (arith, cut), refl, subst (λ (l : List Share). AreAnswersTo (requests_of l) (all_answers l)) (sym nil) refl)
 
-pub in_order : (old new : Seen) (before after : SenderFields) (failed : Bool) (behind : List Letter) → Served old new before after failed behind → AnswersInOrder old new before after failed behind
-in_order old new before after failed behind s = record {
+pub in_order : (old new : AtWork) (failed : Bool) (behind : List Letter) → Served old new failed behind → AnswersInOrder old new failed behind
+in_order old new failed behind s = record {
   requests = requests_of s.shares;
   letters = all_answers s.shares;
   given = s.gave.given;
@@ -138,15 +130,15 @@ explained_more id dead failed (x ∷ xs) (inr (inr last), rest) = (inr (inr last
 
 explained : (xs : List Share) (dead : List ℕ) (failed : Bool) → Ran xs dead failed → AreExplained dead failed xs
 explained [] dead failed ran = tt
-explained (x ∷ xs) dead failed (inl (whole, ran)) = (inl whole, explained xs dead failed ran)
-explained (x ∷ xs) dead failed (inr (inl (more, cut, is, ran))) =
+explained (x ∷ xs) dead failed (inl (whole, alone, ran)) = (inl whole, explained xs dead failed ran)
+explained (x ∷ xs) dead failed (inr (inl (more, cut, alone, is, ran))) =
     subst (λ (d : List ℕ). AreExplained d failed (x ∷ xs)) (sym is)
     (inr (inl (0, omega arith, refl)), explained_more x.request.id more failed xs (explained xs more failed ran))
-explained (x ∷ xs) dead failed (inr (inr (cut, failing, none, nil))) =
+explained (x ∷ xs) dead failed (inr (inr (cut, unsent, failing, none, nil))) =
     (inr (inr (failing, nil)), subst (λ (l : List Share). AreExplained dead failed l) (sym nil) tt)
 
-pub where_dead : (old new : Seen) (before after : SenderFields) (failed : Bool) (behind : List Letter) → Served old new before after failed behind → CutShortWhereDead old new before after failed behind
-where_dead old new before after failed behind s = record {
+pub where_dead : (old new : AtWork) (failed : Bool) (behind : List Letter) → Served old new failed behind → CutShortWhereDead old new failed behind
+where_dead old new failed behind s = record {
   shares = s.shares;
   dead = s.dead;
   given = s.gave.given;

@@ -3,7 +3,7 @@ use Rattle.std.specs.Prelude.{◌≡◌, ℕ, ◌+◌, ◌≤◌, ◌==◌, Bool
 use Rattle.std.specs.Option.{is_none}
 use Rattle.job_desk.specs.declared.desks.Posted.{Posted}
 use Rattle.job_desk.specs.declared.desks.Posted.TheVariants.{Placed, Replaced, Refused}
-use Rattle.job_desk.specs.Requests.{RequestFields}
+use Rattle.requests.specs.Requests.{RequestFields}
 
 -- a slot for a request, the number of the live request, the greatest number posted, whether the desk is closed, and counts
 -- of the requests that were put in the slot, that were handed out, and that were handed back for another or by a cancel
@@ -65,6 +65,10 @@ after_cancel d = record d { slot = None; live = None; replaced = d.replaced + fu
 -- a take empties the slot alone
 abbrev pub after_take : DeskFields → DeskFields
 after_take d = record d { slot = None; taken = d.taken + full d.slot }
+
+-- where the desk is not closed
+abbrev pub after_take_open : DeskFields → DeskFields
+after_take_open d = if d.closed then d else after_take d
 
 abbrev pub after_close : DeskFields → DeskFields
 after_close d = record d { closed = true }

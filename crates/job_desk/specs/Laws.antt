@@ -1,6 +1,6 @@
 -- What holds over any list of calls.
 use Rattle.std.specs.Prelude.{◌≡◌, ℕ, false, List, fold, IsTrue}
-use Rattle.job_desk.specs.Requests.{RequestFields}
+use Rattle.requests.specs.Requests.{RequestFields}
 use Rattle.job_desk.specs.Desks.{DeskFields, IsDesk, new_desk, after_post, after_cancel, after_take, after_close, is_live}
 
 -- a call that changes a desk

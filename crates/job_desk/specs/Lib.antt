@@ -1,12 +1,9 @@
-pub mod Requests
-pub mod Batching
-pub mod Parts
-pub mod Batches
 pub mod Desks
 pub mod Laws
 pub mod Letters
 pub mod Mailbox
 pub mod Ends
 pub mod Posts
+pub mod Gates
 pub mod Answering
 pub mod WorkerLaws

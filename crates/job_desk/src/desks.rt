@@ -1,8 +1,8 @@
 //! The state of a desk. A clause sees it as its fields.
-ghost use Rattle.std.specs.Prelude.{◌≡◌};
-ghost use Rattle.job_desk.specs.Desks.{IsDesk, new_desk, after_post, post_answer, after_cancel, after_take, after_close, is_live, is_idle};
+ghost use Rattle.std.specs.Prelude.{◌≡◌, None, if◌then◌else◌};
+ghost use Rattle.job_desk.specs.Desks.{IsDesk, new_desk, after_post, post_answer, after_cancel, after_take, after_take_open, after_close, is_live, is_idle};
 
-use crate::Request;
+use requests::Request;
 use std::marker::Model;
 
 /// What became of a request that was posted.
@@ -33,11 +33,11 @@ pub struct DeskState {
 impl Model for DeskState {
     ghost use Rattle.job_desk.specs.Desks.{DeskFields, IsDesk};
     ghost use Rattle.std.specs.Coded.{codes};
-    ghost use Rattle.job_desk.specs.contracts.requests.Request as asked;
+    ghost use Rattle.requests.specs.contracts.requests.Request as wanted;
 
     ghost Value = { DeskFields };
 
-    ghost coded = { Prim.hlevel (codes, asked.the_row.coded) };
+    ghost coded = { Prim.hlevel (codes, wanted.the_row.coded) };
 
     ghost view = { λ d. record { slot = d.slot; live = d.live; greatest = d.greatest; closed = d.closed; posted = d.posted; taken = d.taken; replaced = d.replaced } };
 
@@ -106,6 +106,17 @@ impl DeskState {
             self.taken += 1;
         }
         request
+    }
+
+    /// Hands out the request in the slot of a desk that is not closed. Of one that is closed it takes none.
+    pub fn take_open(&mut self) -> Option<Request>
+        ensures state { self.new ≡ after_take_open self.old }
+        ensures request { result ≡ (if self.old.closed then None else self.old.slot) }
+    {
+        if self.closed {
+            return None;
+        }
+        self.take()
     }
 
     /// Returns whether this number is the live one and the desk is not closed.

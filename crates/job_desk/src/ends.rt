@@ -9,6 +9,7 @@ ghost use Rattle.job_desk.specs.Ends.{new_sender, new_end, takes_more};
 
 use crate::NoMemory;
 use crate::letters::Mail;
+use crate::pauses::pause;
 use crate::senders::MailSender;
 use crate::views::{Rule, TakeOne, View};
 use crossbeam_channel::{Pass, RuledReceiver, bounded_with};
@@ -110,7 +111,7 @@ impl MailEnd {
     }
 }
 
-/// Takes the next mail, by the end's pass.
+/// Takes the next mail, by the end's pass. Asks again after a pause where there is none.
 fn take_mail<R: Wait>(
     rt: &R,
     receiver: &RuledReceiver<Mail, View, Rule>,
@@ -125,6 +126,7 @@ fn take_mail<R: Wait>(
         if let Ok(mail) = receiver.recv_as::<TakeOne, R>(rt, pass) {
             return mail;
         }
+        pause(rt);
     }
     unreachable!()
 }

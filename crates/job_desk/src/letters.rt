@@ -1,6 +1,6 @@
 //! Letters: what the threads of a prompt send to its loop.
-use crate::Batch;
 use cell_grid::Size;
+use requests::Batch;
 use text_doc::Bytes;
 
 /// What one thread tells the loop.

@@ -1,9 +1,7 @@
-//! Answers that are made apart from the typing: requests, the batches of their answers, desks where one thread puts a request
-//! and another takes it, workers that answer what they take, and the mailbox by which threads send letters to the loop of a
-//! prompt.
+//! Answers that are made apart from the typing: desks where one thread puts a request and another takes it, workers that
+//! answer what they take, and the mailbox by which threads send letters to the loop of a prompt.
 #![tactic(auto)]
 
-mod batches;
 mod desk_locks;
 mod desk_posts;
 mod desks;
@@ -14,8 +12,9 @@ mod letters;
 #[cfg(test)]
 mod mail_tests;
 mod memory_posts;
+mod pauses;
 mod posts;
-mod requests;
+mod promises;
 mod senders;
 #[cfg(test)]
 mod tests;
@@ -25,7 +24,6 @@ pub mod worker_laws;
 mod worker_tests;
 mod workers;
 
-pub use batches::{BATCH_SIZE, Batch, Items};
 pub use desk_locks::Desk;
 pub use desk_posts::DeskPost;
 pub use desks::{DeskState, Posted};
@@ -34,7 +32,7 @@ pub use gates::Gate;
 pub use letters::{Letter, Mail};
 pub use memory_posts::MemoryPost;
 pub use posts::Post;
-pub use requests::{Kind, Request};
+pub use promises::SameSender;
 pub use senders::MailSender;
 pub use std::alloc::AllocError as NoMemory;
 pub use workers::{serve, work};

@@ -1,32 +1,29 @@
-//! Two threads that send through one mailbox: what is taken of each is what it sent, in whatever order the threads run.
+//! Five threads that send through one mailbox: what is taken of each is what it sent, in whatever order the threads run.
 ghost use Rattle.std.specs.Prelude.{◌≡◌, [], IfOk};
 
-use crate::{Letter, Mail, MailEnd, MailEnds, MailSender, NoMemory, mailbox};
+use crate::tests::request;
+use crate::worker_tests::CountingGate;
+use crate::{
+    Desk, DeskPost, Letter, MAILBOX_SIZE, Mail, MailEnd, MailEnds, MailSender, NoMemory,
+    SameSender, mailbox, work,
+};
+use requests::Kind;
 use std::alloc::Global;
-use std::snapshot::Snapshot;
-use std::sync::Wait;
+use std::sync::{Arc, Wait};
 use std::test::Fail;
 use std::thread;
-use std::thread::{Promise, PromisedHandle, Threads};
+use std::thread::{PromisedHandle, Threads};
 use text_doc::Bytes;
 
 /// More ticks than a mailbox holds letters.
 const TICKS: u64 = 300;
 
-/// A thread gives back the sender that it was given.
-#[derive(Drop)]
-struct SameSender(Snapshot<MailSender>);
-
-impl Promise<MailSender> for SameSender {
-    ghost kept_by = { λ p sender. (sender.room ≡ p.0.value.room) × (sender.number ≡ p.0.value.number) };
-}
-
-/// Sends the ticks 0, 1, 2 and so on, and `Gone`.
-fn send_ticks<R: Wait>(rt: &R, mut sender: MailSender) -> MailSender
+/// Sends so many ticks, 0, 1, 2 and so on, and `Gone`.
+fn send_ticks<R: Wait>(rt: &R, mut sender: MailSender, count: u64) -> MailSender
     requires { sender.sent ≡ [] }
     ensures { (result.room ≡ sender.room) × (result.number ≡ sender.number) }
 {
-    for moment in 0..TICKS {
+    for moment in 0..count {
         sender.send(rt, Letter::Tick(moment));
     }
     sender.send(rt, Letter::Gone);
@@ -52,16 +49,16 @@ fn start_ticks<R: Threads + Wait + Copy + Send + Sync + 'static>(
     sender: MailSender,
 ) -> Result<PromisedHandle<MailSender, SameSender>, Fail>
     requires { sender.sent ≡ [] }
-    ensures { IfOk result (λ handle. (handle.promise.0.value.room ≡ sender.room) × (handle.promise.0.value.number ≡ sender.number)) }
+    ensures { IfOk result (λ handle. (handle.promise.sender.value.room ≡ sender.room) × (handle.promise.sender.value.number ≡ sender.number)) }
 {
-    let promise = SameSender(Snapshot::of(&sender));
+    let promise = SameSender::of(&sender);
     match thread::spawn_with(
         &rt,
         promise,
         move || -> MailSender
             requires { sender.sent ≡ [] }
             ensures { (result.room ≡ sender.room) × (result.number ≡ sender.number) }
-        { send_ticks(&rt, sender) },
+        { send_ticks(&rt, sender, TICKS) },
     ) {
         Ok(handle) => Ok(handle),
         Err(_) => Err("no thread for the ticks".into()),
@@ -74,13 +71,13 @@ fn start_input<R: Threads + Wait + Copy + Send + Sync + 'static>(
     sender: MailSender,
 ) -> Result<PromisedHandle<MailSender, SameSender>, Fail>
     requires { sender.sent ≡ [] }
-    ensures { IfOk result (λ handle. (handle.promise.0.value.room ≡ sender.room) × (handle.promise.0.value.number ≡ sender.number)) }
+    ensures { IfOk result (λ handle. (handle.promise.sender.value.room ≡ sender.room) × (handle.promise.sender.value.number ≡ sender.number)) }
 {
     let first = Bytes::from_slice(alloc, b"a")?;
     let second = Bytes::from_slice(alloc, b"bc")?;
     let third = Bytes::from_slice(alloc, b"d")?;
     let pieces = [first, second, third];
-    let promise = SameSender(Snapshot::of(&sender));
+    let promise = SameSender::of(&sender);
     match thread::spawn_with(
         &rt,
         promise,
@@ -94,11 +91,48 @@ fn start_input<R: Threads + Wait + Copy + Send + Sync + 'static>(
     }
 }
 
-/// Takes mails until as many senders are gone.
+/// Works at a desk until it is closed, and gives the sender back.
+fn work_at<R: Wait>(rt: &R, alloc: Global, desk: &Desk, mut sender: MailSender) -> MailSender
+    requires { sender.sent ≡ [] }
+    ensures { (result.room ≡ sender.room) × (result.number ≡ sender.number) }
+{
+    let mut post = DeskPost::new(rt, desk);
+    let mut gate = CountingGate { passed: 0 };
+    let _ = work(rt, alloc, &mut post, &mut gate, &mut sender);
+    sender
+}
+
+/// Starts a worker at this desk.
+fn start_worker<R: Threads + Wait + Copy + Send + Sync + 'static>(
+    rt: R,
+    alloc: Global,
+    desk: &Arc<Desk>,
+    sender: MailSender,
+) -> Result<PromisedHandle<MailSender, SameSender>, Fail>
+    requires { sender.sent ≡ [] }
+    ensures { IfOk result (λ handle. (handle.promise.sender.value.room ≡ sender.room) × (handle.promise.sender.value.number ≡ sender.number)) }
+{
+    let desk = Arc::try_clone(desk)?;
+    let promise = SameSender::of(&sender);
+    match thread::spawn_with(
+        &rt,
+        promise,
+        move || -> MailSender
+            requires { sender.sent ≡ [] }
+            ensures { (result.room ≡ sender.room) × (result.number ≡ sender.number) }
+        { work_at(&rt, alloc, &*desk, sender) },
+    ) {
+        Ok(handle) => Ok(handle),
+        Err(_) => Err("no thread for a worker".into()),
+    }
+}
+
+/// Takes mails until as many senders are gone. Closes the desk at an answer.
 fn take_all<R: Wait>(
     rt: &R,
     alloc: Global,
     end: &mut MailEnd,
+    desk: &Desk,
     senders: usize,
 ) -> Result<Vec<Mail>, NoMemory>
     ensures { end.new.room ≡ end.old.room }
@@ -110,8 +144,10 @@ fn take_all<R: Wait>(
             break;
         }
         let mail = end.take(rt);
-        if matches!(mail.letter, Letter::Gone) {
-            gone += 1;
+        match &mail.letter {
+            Letter::Gone => gone += 1,
+            Letter::Answer(_) => desk.close(rt),
+            _ => {}
         }
         mails.push(mail)?;
     }
@@ -128,7 +164,8 @@ fn code(letter: &Letter) -> u64 {
         },
         Letter::InputEnd => 2000,
         Letter::Gone => 3000,
-        _ => 4000,
+        Letter::Answer(_) => 4000,
+        _ => 5000,
     }
 }
 
@@ -144,21 +181,29 @@ fn codes(alloc: Global, mails: &[Mail], sender: u32) -> Result<Vec<u64>, NoMemor
 }
 
 #[test]
-fn letters_come_in_order(rt: HostRuntime) -> Result<(), Fail> {
+fn letters_of_five_threads_come_in_order(rt: HostRuntime) -> Result<(), Fail> {
     let alloc = rt.alloc();
     let MailEnds {
         reader,
         ticker,
-        complete: _complete,
-        suggest: _suggest,
-        check: _check,
+        complete,
+        suggest,
+        check,
         mut end,
     } = mailbox(alloc)?;
-    let input = start_input(rt, alloc, reader)?;
+    let desk = Arc::new(alloc, Desk::new())?;
+    let first = start_worker(rt, alloc, &desk, complete)?;
+    let second = start_worker(rt, alloc, &desk, suggest)?;
+    let third = start_worker(rt, alloc, &desk, check)?;
     let ticks = start_ticks(rt, ticker)?;
-    let mails = take_all(&rt, alloc, &mut end, 2)?;
+    let input = start_input(rt, alloc, reader)?;
+    let _ = desk.post(&rt, request(&rt, alloc, 1, Kind::Check, 0)?);
+    let mails = take_all(&rt, alloc, &mut end, &*desk, 5)?;
     end.meet(input.join(&rt));
     end.meet(ticks.join(&rt));
+    end.meet(first.join(&rt));
+    end.meet(second.join(&rt));
+    end.meet(third.join(&rt));
     let mut expected = Vec::new(alloc);
     for moment in 0..TICKS {
         expected.push(moment)?;
@@ -169,6 +214,26 @@ fn letters_come_in_order(rt: HostRuntime) -> Result<(), Fail> {
     assert_eq!(rt; input.as_slice(), pieces.as_slice());
     let ticks = codes(alloc, mails.as_slice(), 1)?;
     assert_eq!(rt; ticks.as_slice(), expected.as_slice());
-    assert_eq!(rt; mails.len(), input.len() + ticks.len());
+    // one of the three workers answered the request, and each is gone
+    assert_eq!(rt; mails.len(), input.len() + ticks.len() + 4);
+    Ok(())
+}
+
+#[test]
+fn a_mailbox_holds_256_letters(rt: HostRuntime) -> Result<(), Fail> {
+    let alloc = rt.alloc();
+    assert_eq!(rt; MAILBOX_SIZE, 256);
+    let MailEnds {
+        reader: _reader,
+        ticker,
+        complete: _complete,
+        suggest: _suggest,
+        check: _check,
+        mut end,
+    } = mailbox(alloc)?;
+    let sender = send_ticks(&rt, ticker, 255);
+    let mails = take_all(&rt, alloc, &mut end, &Desk::new(), 1)?;
+    end.meet(sender);
+    assert_eq!(rt; mails.len(), 256);
     Ok(())
 }

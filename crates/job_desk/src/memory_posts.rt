@@ -2,7 +2,8 @@
 ghost use Rattle.std.specs.Prelude.{◌≡◌, ◌+◌, ◌≤◌, [], ◌++◌, drop, take, length, IfOk, IfSome, IfNone, Some, option_to_list, vec_len, vec_capacity};
 ghost use Rattle.job_desk.specs.Posts.{Seen, IsShut, after_given, after_live, new_seen, next_answer};
 
-use crate::{NoMemory, Post, Request};
+use crate::{NoMemory, Post};
+use requests::Request;
 use std::alloc::Global;
 use std::collections::VecDeque;
 use std::marker::Model;
@@ -16,6 +17,7 @@ pub struct MemoryPost {
     left: VecDeque<Request>,
     answers: VecDeque<bool>,
     refused: Vec<u64>,
+    asked: u64,
     shut: u64,
     open_id: Option<u64>,
 }
@@ -24,14 +26,14 @@ impl Model for MemoryPost {
     ghost use Rattle.std.specs.Prelude.{◌≡◌, ◌+◌, ◌≤◌, drop, take, length, Some, vec_len, vec_capacity};
     ghost use Rattle.job_desk.specs.Posts.{Planned};
     ghost use Rattle.std.specs.Coded.{codes};
-    ghost use Rattle.job_desk.specs.contracts.requests.Request as asked;
+    ghost use Rattle.requests.specs.contracts.requests.Request as wanted;
 
     ghost Value = { Planned };
 
-    ghost coded = { Prim.hlevel (codes, asked.the_row.coded) };
+    ghost coded = { Prim.hlevel (codes, wanted.the_row.coded) };
 
     ghost view = { λ p. record {
-      seen = record { taken = p.taken; dead = vec_len p.refused; shut = p.shut; open_id = p.open_id; given = Some (take p.taken p.requests.items); refused = Some p.refused.items };
+      seen = record { taken = p.taken; asked = p.asked; dead = vec_len p.refused; shut = p.shut; open_id = p.open_id; given = Some (take p.taken p.requests.items); refused = Some p.refused.items };
       left = p.left.items;
       answers = p.answers.items;
     } };
@@ -60,6 +62,7 @@ impl MemoryPost {
             left,
             answers,
             refused,
+            asked: 0,
             shut: 0,
             open_id: None,
         })
@@ -77,6 +80,13 @@ impl MemoryPost {
         ensures { Some result.now ≡ self.now.seen.refused }
     {
         self.refused.as_slice()
+    }
+
+    /// Returns how often it was asked whether a request is live. The count stands still at its last number.
+    pub fn asked(&self) -> u64
+        ensures { result ≡ self.now.seen.asked }
+    {
+        self.asked
     }
 
     /// Returns how often it gave none. The count stands still at its last number.
@@ -119,6 +129,7 @@ impl Post for MemoryPost {
         ensures rest { self.new.answers ≡ drop 1 self.old.answers }
         ensures left { self.new.left ≡ self.old.left }
     {
+        self.asked = self.asked.saturating_add(1);
         match self.answers.pop_front() {
             Some(false) => {
                 self.refused.push_reserved(id);

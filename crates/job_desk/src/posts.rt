@@ -2,7 +2,7 @@
 ghost use Rattle.std.specs.Prelude.{◌≡◌, IfSome, IfNone, Some};
 ghost use Rattle.job_desk.specs.Posts.{Seen, IsShut, after_given, after_live};
 
-use crate::Request;
+use requests::Request;
 
 /// Where a worker gets requests, one after the other, and learns whether the answer to the one that it has is still wanted.
 pub trait Post {

@@ -9,6 +9,7 @@ ghost use Rattle.job_desk.specs.Ends.{IsPassIn, room_of, new_sender, sends_more}
 
 use crate::NoMemory;
 use crate::letters::{Letter, Mail};
+use crate::pauses::pause;
 use crate::views::{Compare, Cutting, Meeting, Rule, SendOne, View};
 use crossbeam_channel::{Pass, RuledSender};
 use std::marker::Model;
@@ -65,8 +66,8 @@ impl MailSender {
         })
     }
 
-    /// Sends a letter. Waits while the mailbox is full, and asks again where the letter is handed back: it does not give up,
-    /// so the end of the mailbox is to be kept until no more is sent.
+    /// Sends a letter. Waits while the mailbox is full, and asks again after a pause where the letter is handed back: it does
+    /// not give up, so the end of the mailbox is to be kept until no more is sent.
     pub fn send<R: Wait>(&mut self, rt: &R, letter: Letter)
         requires { IsOpen self.old.sent }
         ensures { self.new ≡ sends_more self.old (letter ∷ []) }
@@ -100,7 +101,7 @@ impl MailSender {
     }
 }
 
-/// Sends a mail of the sender whose pass this is.
+/// Sends a mail of the sender whose pass this is. Asks again after a pause where it is handed back.
 fn send_mail<R: Wait>(
     rt: &R,
     sender: &RuledSender<Mail, View, Rule>,
@@ -117,6 +118,7 @@ fn send_mail<R: Wait>(
             Ok(()) => return,
             Err(back) => mail = back.into_inner(),
         }
+        pause(rt);
     }
     unreachable!()
 }

@@ -1,20 +1,18 @@
-//! Batches and a desk worked out by hand, and each call that allocates once with ample memory.
-use crate::{Batch, DeskState, Items, Kind, Posted, Request};
-use completers::{Completer, Tools, Validator, Verdict};
+//! A desk worked out by hand.
+use crate::{DeskState, Posted};
+use completers::{Completer, Tools, Validator};
+use requests::{Kind, Request};
 use std::alloc::Global;
 use std::process::Abort;
 use std::sync::Arc;
 use std::test::Fail;
 use text_doc::{Doc, Lines, MAX_LENGTH, NoMemory, Text};
 
-fn doc(rt: &impl Abort, alloc: Global, words: &str, mark: bool) -> Result<Doc, Fail> {
+fn doc(rt: &impl Abort, alloc: Global, words: &str) -> Result<Doc, Fail> {
     let text = Text::read_str(alloc, words)?;
     assert!(rt; text.len() <= MAX_LENGTH);
     let cursor = text.len();
-    let mut doc = Doc::new(alloc, text, cursor)?;
-    if mark {
-        doc.set_mark(Some(0));
-    }
+    let doc = Doc::new(alloc, text, cursor)?;
     Ok(doc)
 }
 
@@ -29,19 +27,18 @@ fn words(alloc: Global, count: usize) -> Result<Lines, NoMemory> {
     Ok(words)
 }
 
-/// A completer of `count` words, a history of the entry `alter table`, and a validator that wants a number.
+/// A completer of `count` words, no history, and a validator that wants a number.
 fn tools(alloc: Global, count: usize) -> Result<Arc<Tools>, Fail> {
-    let mut history = Lines::new(alloc);
-    history.push(Text::read_str(alloc, "alter table")?)?;
     let completer = Completer::words(alloc, words(alloc, count)?, false)?;
     let tools = Tools {
         completer: Some(completer),
-        history,
+        history: Lines::new(alloc),
         validator: Validator::Number,
     };
     Ok(Arc::new(alloc, tools)?)
 }
 
+/// A request for what these tools make of the text `a`.
 pub(crate) fn request(
     rt: &impl Abort,
     alloc: Global,
@@ -52,107 +49,9 @@ pub(crate) fn request(
     Ok(Request {
         id,
         kind,
-        doc: doc(rt, alloc, "a", true)?,
+        doc: doc(rt, alloc, "a")?,
         tools: tools(alloc, count)?,
     })
-}
-
-fn made(
-    rt: &impl Abort,
-    alloc: Global,
-    kind: Kind,
-    count: usize,
-    number: u32,
-) -> Result<Batch, Fail> {
-    let request = request(rt, alloc, 7, kind, count)?;
-    let batch = Batch::make(alloc, &request, number)?.ok_or("no such batch")?;
-    Ok(batch)
-}
-
-/// The lengths of the first and the last completion of a batch, and their number; zeros where there are none.
-fn ends(batch: &Batch) -> (usize, usize, usize) {
-    match batch.items() {
-        Items::Completions(items) => match (items.as_slice().first(), items.as_slice().last()) {
-            (Some(first), Some(last)) => (first.text.len(), last.text.len(), items.len()),
-            _ => (0, 0, 0),
-        },
-        _ => (0, 0, 1),
-    }
-}
-
-#[test]
-fn batches_of_completions(rt: HostRuntime) -> Result<(), Fail> {
-    let alloc = rt.alloc();
-    // of how many words, the batch, its first and last word by their lengths, how many they are, and whether it is the last
-    let rows = [
-        (70, 0, (1, 64, 64), false),
-        (70, 1, (65, 70, 6), true),
-        (64, 0, (1, 64, 64), true),
-        (65, 1, (65, 65, 1), true),
-        (0, 0, (0, 0, 0), true),
-    ];
-    for (count, number, expected, last) in rows {
-        let batch = made(&rt, alloc, Kind::Complete, count, number)?;
-        assert_eq!(rt; ends(&batch), expected, "batch {number} of {count}");
-        assert_eq!(rt; batch.last(), last, "batch {number} of {count}");
-        assert_eq!(rt; batch.number(), number);
-    }
-    let none = [
-        (Kind::Complete, 70, 2),
-        (Kind::Complete, 64, 1),
-        (Kind::Complete, 0, 1),
-        (Kind::Complete, 70, u32::MAX),
-        (Kind::Suggest, 70, 1),
-        (Kind::Check, 70, 1),
-    ];
-    for (kind, count, number) in none {
-        let request = request(&rt, alloc, 7, kind, count)?;
-        assert!(rt; Batch::make(alloc, &request, number)?.is_none());
-    }
-    Ok(())
-}
-
-/// Whether a batch is the last one and has this suggestion.
-fn suggests(batch: &Batch, expected: &[char]) -> bool {
-    match batch.items() {
-        Items::Suggestion(Some(text)) => text.equals(expected) && batch.last(),
-        _ => false,
-    }
-}
-
-/// Whether a batch is the last one and says that the text has a fault at its start.
-fn finds_fault(batch: &Batch) -> bool {
-    match batch.items() {
-        Items::Verdict(Verdict::Invalid { at, .. }) => *at == 0 && batch.last(),
-        _ => false,
-    }
-}
-
-#[test]
-fn single_batches(rt: HostRuntime) -> Result<(), Fail> {
-    let alloc = rt.alloc();
-    let expected = Text::read_str(alloc, "lter table")?;
-    let suggestion = made(&rt, alloc, Kind::Suggest, 3, 0)?;
-    assert!(rt; suggests(&suggestion, expected.as_slice()));
-    assert!(rt; suggests(&suggestion.copy()?, expected.as_slice()));
-    let verdict = made(&rt, alloc, Kind::Check, 3, 0)?;
-    assert!(rt; finds_fault(&verdict));
-    assert!(rt; finds_fault(&verdict.copy()?));
-    Ok(())
-}
-
-#[test]
-fn copies(rt: HostRuntime) -> Result<(), Fail> {
-    let alloc = rt.alloc();
-    let batch = made(&rt, alloc, Kind::Complete, 70, 1)?;
-    let copy = batch.copy()?;
-    assert_eq!(rt; ends(&copy), ends(&batch));
-    assert_eq!(rt; (copy.number(), copy.last()), (1, true));
-    assert_eq!(rt; copy.request().id, 7);
-    assert_eq!(rt; copy.request().doc.mark(), Some(0));
-    assert!(rt; copy.request().doc.is_same(&batch.request().doc));
-    assert_eq!(rt; copy.request().tools.history.len(), 1);
-    Ok(())
 }
 
 /// The number of the request that this one replaced.

@@ -1,12 +1,13 @@
 //! Workers over a post in memory, and over a desk at which a request is cancelled while they work.
-ghost use Rattle.std.specs.Prelude.{IfOk};
+ghost use Rattle.std.specs.Prelude.{IfOk, None};
 ghost use Rattle.job_desk.specs.Letters.{IsOpen};
 
 use crate::tests::request;
 use crate::{
-    Batch, Desk, DeskPost, Gate, Items, Kind, Letter, MailEnd, MailEnds, MailSender, MemoryPost,
-    NoMemory, Post, Request, mailbox, serve, work,
+    Desk, DeskPost, Gate, Letter, MailEnd, MailEnds, MailSender, MemoryPost, NoMemory, Post,
+    mailbox, serve, work,
 };
+use requests::{Batch, Items, Kind, Request};
 use std::alloc::Global;
 use std::process::Abort;
 use std::sync::{Arc, Condvar, Mutex, Wait};
@@ -61,13 +62,15 @@ fn compare_last(rt: &(impl Wait + Abort), end: &mut MailEnd) {
     );
 }
 
-/// A gate that counts how often it was passed.
+/// A gate that counts how often it was passed, and tells no batch that did.
 #[derive(Drop)]
-struct CountingGate {
-    passed: u32,
+pub(crate) struct CountingGate {
+    pub(crate) passed: u32,
 }
 
 impl Gate for CountingGate {
+    ghost passed = { λ _. None };
+
     fn before(&mut self, _id: u64, _number: u32) {
         self.passed = self.passed.saturating_add(1);
     }
@@ -103,6 +106,8 @@ fn serves_a_post(rt: HostRuntime) -> Result<(), Fail> {
     compare_last(&rt, &mut end);
     assert_eq!(rt; gate.passed, 4);
     assert_eq!(rt; (post.given().len(), post.shut()), (3, 1));
+    // once for each batch that was sent, and once for the dead request
+    assert_eq!(rt; post.asked(), 5);
     assert_eq!(rt; post.refused(), [6].as_slice());
     // behind its plan a post gives no request, and says that the open one is live
     assert!(rt; post.next().is_none());
@@ -131,6 +136,8 @@ struct HoldingGate<R: Wait + Drop> {
 }
 
 impl<R: Wait + Drop> Gate for HoldingGate<R> {
+    ghost passed = { λ _. None };
+
     fn before(&mut self, _id: u64, number: u32) {
         if number == 1 {
             wait_at(&self.rt, &self.barrier);
@@ -209,16 +216,6 @@ fn closed_barrier(alloc: Global) -> Result<Arc<Barrier>, NoMemory> {
     Ok(Arc::new(alloc, barrier)?)
 }
 
-fn post<R: Wait>(rt: &R, desk: &Desk, request: Request) {
-    let _ = desk.state.lock(rt).post(request);
-    desk.changed.notify_all();
-}
-
-fn close<R: Wait>(rt: &R, desk: &Desk) {
-    desk.state.lock(rt).close();
-    desk.changed.notify_all();
-}
-
 /// Uses a desk at which a worker works, and compares what it sends. A first request is cancelled once it was found live for
 /// its second batch, and before it is asked for the third; a second one is answered.
 fn use_desk<R: Wait + Abort>(
@@ -229,14 +226,14 @@ fn use_desk<R: Wait + Abort>(
     first: Request,
     second: Request,
 ) {
-    post(rt, desk, first);
+    let _ = desk.post(rt, first);
     wait_until_reached(rt, barrier);
-    assert!(rt; desk.state.lock(rt).cancel().is_none());
-    post(rt, desk, second);
+    assert!(rt; desk.cancel(rt).is_none());
+    let _ = desk.post(rt, second);
     release(rt, barrier);
     let expected = [(1, 0, 64, false), (1, 1, 64, false), (2, 0, 1, true)];
     compare_batches(rt, end, 2, expected.as_slice());
-    close(rt, desk);
+    desk.close(rt);
     compare_last(rt, end);
 }
 
