@@ -8,7 +8,7 @@ use Rattle.cell_grid.specs.Size.{Extent}
 use Rattle.cell_grid.specs.declared.drawing.Drawing.{Drawing}
 use Rattle.diff_render.specs.Frames.{put, Agree, Begins, screen_after}
 use Rattle.diff_render.specs.declared.shown.OnScreen.{OnScreen}
-use Rattle.term_model.specs.Obeying.{forgotten, obeyed_bytes}
+use Rattle.term_model.specs.Obeying.{acted, forgotten, obeyed_bytes}
 use Rattle.term_model.specs.Term.{Term, IsTerminal}
 use Rattle.session_core.specs.Draw.{draw, settle, window_of}
 use Rattle.session_core.specs.Keys.{is_accept, edited, ran}
@@ -17,10 +17,14 @@ use Rattle.session_core.specs.State.{State, has_ended}
 use Rattle.session_core.specs.declared.outcomes.Outcome.TheVariants.{Accepted}
 use Rattle.win_view.proofs.WindowLaws.{length-window_rows}
 use Rattle.session_core.specs.Draw.{content_of}
-use Rattle.prompt_run.specs.FramesShown.{FramesShow, obeying}
+use Rattle.diff_render.specs.Canvas.{Spells, reads}
+use Rattle.term_model.proofs.ActedLemmas.{acted-append}
+use Rattle.prompt_run.specs.FramesShown.{FramesShow, obeyed_each, obeying}
 use Rattle.prompt_run.specs.Play.{Play, accepted, done, done_by}
-use Rattle.prompt_run.specs.Playing.{Holds, KeepsFrames}
+use Rattle.prompt_run.specs.Playing.{Finishes, Holds, KeepsFrames}
+use Rattle.prompt_run.specs.Replay.{Closes, IsFramesOf}
 use Rattle.prompt_run.specs.Run.{Run, base_at, ran_on, shown_at, size_after, terminal_at}
+use Rattle.prompt_run.specs.Script.{final_by}
 use Rattle.prompt_run.specs.Terminals.{Keeps, Obeys}
 use Rattle.prompt_run.specs.Turn.{ShowsState}
 use Rattle.prompt_run.specs.declared.players.Player.{Player}
@@ -56,15 +60,26 @@ draw-high s = omega (arith, length-window_rows (content_of s) (window_of s) s.sc
 
 -- the frame of one more event
 frames-more : (t : Term) (r : Run) (events : List Event) (frames : List (List ℕ)) (end : Term) (last : Run) (event : Event) (frame : List ℕ)
-    → FramesShow t r events frames end last → Agree (obeying end last event frame) (ran_on last event).screen
+    → FramesShow t r events frames end last → Spells frame (reads frame) → Agree (obeying end last event frame) (ran_on last event).screen
     → FramesShow t r (events ++ event ∷ []) (frames ++ frame ∷ []) (obeying end last event frame) (ran_on last event)
-frames-more t r [] [] end last event frame show agree =
+frames-more t r [] [] end last event frame show ends agree =
     let P : Term → Run → Type 0 = λ u q. FramesShow u q (event ∷ []) (frame ∷ []) (obeying end last event frame) (ran_on last event) in
-    subst (λ u. P u r) show.0 (subst (λ q. P end q) show.1 (agree, (refl, refl)))
-frames-more t r [] (first ∷ frames) end last event frame show agree = absurd show
-frames-more t r (first ∷ events) [] end last event frame show agree = absurd show
-frames-more t r (first ∷ events) (one ∷ frames) end last event frame show agree =
-    (show.0, frames-more (obeying t r first one) (ran_on r first) events frames end last event frame show.1 agree)
+    subst (λ u. P u r) show.0 (subst (λ q. P end q) show.1 (ends, agree, (refl, refl)))
+frames-more t r [] (first ∷ frames) end last event frame show ends agree = absurd show
+frames-more t r (first ∷ events) [] end last event frame show ends agree = absurd show
+frames-more t r (first ∷ events) (one ∷ frames) end last event frame show ends agree =
+    (show.0, show.1, frames-more (obeying t r first one) (ran_on r first) events frames end last event frame show.2 ends agree)
+
+-- frames that are joined do what they do one by one
+pub joined_at_once : (t : Term) (r : Run) (events : List Event) (frames : List (List ℕ)) (end : Term) (last : Run) → FramesShow t r events frames end last
+    → (u : Term) → obeyed_bytes u (concat frames) ≡ obeyed_each u frames
+joined_at_once t r [] [] end last show u = refl
+joined_at_once t r [] (frame ∷ frames) end last show u = absurd show
+joined_at_once t r (event ∷ events) [] end last show u = absurd show
+joined_at_once t r (event ∷ events) (frame ∷ frames) end last show u =
+    ap (acted u) (show.0 (concat frames))
+    ∙ acted-append u (reads frame) (reads (concat frames))
+    ∙ joined_at_once (obeying t r event frame) (ran_on r event) events frames end last show.2 (obeyed_bytes u frame)
 
 concat-more : (frames : List (List ℕ)) (frame : List ℕ) → concat (frames ++ frame ∷ []) ≡ concat frames ++ frame
 concat-more [] frame = append-nil frame
@@ -107,20 +122,38 @@ begins_by false e size drawing before x t base shown begins terminal high kept s
     subst P (sym kept) (begins_again size before x t base drawing begins terminal high seen)
 
 -- the frames that are kept are those of one event more
-keeps_more : (before now : Option (List ℕ)) (p : Play) (event : Event) (t sized u : Term) (frame : List ℕ) → KeepsFrames before p t → Keeps before frame now
+keeps_more : (before now : Option (List ℕ)) (p : Play) (event : Event) (t sized u : Term) (frame : List ℕ) → Spells frame (reads frame) → KeepsFrames before p t → Keeps before frame now
     → sized ≡ terminal_at p.run.state.size (next p.run.state event).size t → u ≡ obeyed_bytes sized frame → Agree u (ran_on p.run event).screen
     → KeepsFrames now (done_by false p event) u
-keeps_more None now p event t sized u frame kept keeps resize obeys agree =
+keeps_more None now p event t sized u frame ends kept keeps resize obeys agree =
     let P : Option (List ℕ) → Type 0 = λ frames. KeepsFrames frames (done_by false p event) u in subst P (sym keeps) tt
-keeps_more (Some bytes) now p event t sized u frame kept keeps resize obeys agree =
+keeps_more (Some bytes) now p event t sized u frame ends kept keeps resize obeys agree =
     let P : Option (List ℕ) → Term → Type 0 = λ frames x. KeepsFrames frames (done_by false p event) x in
     let is : u ≡ obeying t p.run event frame = obeys ∙ ap (λ x. obeyed_bytes x frame) resize in
     let seen : Agree (obeying t p.run event frame) (ran_on p.run event).screen = subst (λ x. Agree x (ran_on p.run event).screen) is agree in
     subst (λ frames. P frames u) (sym keeps) (subst (λ x. P (Some (bytes ++ frame)) x) (sym is) (
       kept.0 ++ frame ∷ [],
-      frames-more p.first.screen p.first p.events kept.0 t p.run event frame kept.1 seen,
+      frames-more p.first.screen p.first p.events kept.0 t p.run event frame kept.1 ends seen,
       ap (λ front. front ++ frame) kept.2 ∙ sym (concat-more kept.0 frame),
     ))
+
+-- the frames that are kept are those of the play
+frames_of : (p : Play) (t : Term) (bytes : List ℕ) → KeepsFrames (Some bytes) p t → IsFramesOf p bytes
+frames_of p t bytes kept = record {
+  frames = kept.0;
+  last = t;
+  show = kept.1;
+  joined = kept.2;
+  at_once = λ u. ap (obeyed_bytes u) kept.2 ∙ joined_at_once p.first.screen p.first p.events kept.0 t p.run kept.1 u;
+}
+
+-- so a play that was ended closes with its frames, where they are kept
+pub closes_frames : (asked : Bool) (p : Play) (refused : Option ℕ) (player : Player) (bytes : List ℕ) (status : ℕ) → Finishes p refused player status
+    → player.screen.frames ≡ Some bytes → is_some player.screen.frames ≡ asked → Closes asked p refused bytes status
+closes_frames asked p refused player bytes status finishes kept same =
+    let P : Option (List ℕ) → Type 0 = λ frames. KeepsFrames frames (final_by p refused) player.screen.terminal in
+    let C : Bool → Type 0 = λ b. Closes b p refused bytes status in
+    subst C (sym (ap is_some kept) ∙ same) (frames_of (final_by p refused) player.screen.terminal bytes (subst P kept finishes.frames), finishes.status)
 
 -- so the player holds the play with that event
 pub held_next : (old new : Player) (p : Play) (event : Event) → Holds old p → has_ended old.session ≡ false → Advances old event new → Holds new (done p event)
@@ -154,9 +187,9 @@ held_next old new p event holds going advances =
       agrees = agrees;
       begins = λ still. begins_by over (goes_on S.failed over still) S.size (draw S) (shown_at r.state.size S.size old.shown) u new.screen.terminal base new.shown begins
           advances.obeys.terminal (draw-high S) kept seen;
-      drawn = drawn_behind S new.shown kept;
+      drawn = λ still. drawn_behind S new.shown kept;
       answers = advances.answers ∙ ap (λ lines. lines ++ accepted new.session.outcome) holds.answers ∙ ap (λ s. p.answers ++ accepted s.outcome) is;
       reports = advances.reports ∙ holds.reports;
-      frames = keeps_more old.screen.frames new.screen.frames p event t advances.sized new.screen.terminal advances.frame holds.frames advances.keeps
+      frames = keeps_more old.screen.frames new.screen.frames p event t advances.sized new.screen.terminal advances.frame shows.ends holds.frames advances.keeps
           sized advances.obeys.obeyed agrees;
     })

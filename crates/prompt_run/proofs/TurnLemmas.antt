@@ -1,11 +1,12 @@
 -- A frame that was made for the drawing of a state shows the state.
 use Rattle.std.proofs.Common.{◌≡◌, ℕ, Bool, true, false, List, is_some, refl, sym, subst}
+use Rattle.std.specs.Prelude.{IsTrue}
 use Rattle.cell_grid.specs.Size.{Extent}
 use Rattle.cell_grid.specs.declared.drawing.Drawing.{Drawing}
 use Rattle.diff_render.specs.Frames.{IsFrame, screen_after, WasDrawnAt}
 use Rattle.diff_render.specs.declared.shown.OnScreen.{OnScreen}
 use Rattle.session_core.specs.Draw.{draw}
-use Rattle.session_core.specs.State.{State, failed}
+use Rattle.session_core.specs.State.{State}
 use Rattle.prompt_run.specs.Run.{shown_at}
 use Rattle.prompt_run.specs.Turn.{ShowsState}
 
@@ -25,7 +26,7 @@ drawn_behind s shown kept =
     let P : OnScreen → Type 0 = λ screen. WasDrawnAt s.size screen in
     subst P (sym kept) (elim (is_some s.outcome) as (λ b. P (screen_after b (draw s) s.size)) [ true ↦ tt | false ↦ refl ])
 
--- also where the screen refused the frame
-pub drawn_behind_fault : (s t : State) (shown : OnScreen) → t ≡ failed s → shown ≡ screen_after (is_some s.outcome) (draw s) s.size → WasDrawnAt t.size shown
-drawn_behind_fault s t shown ended kept =
-    subst (λ (u : State). WasDrawnAt u.size shown) (sym ended) (drawn_behind s shown kept)
+-- a session goes on that was not said to have ended
+pub going : (ended : Bool) → (IsTrue ended → ⊥) → ended ≡ false
+going true denied = absurd (denied refl)
+going false denied = refl

@@ -1,15 +1,7 @@
 -- How the lines of a terminal's window lie in its lines.
-use Rattle.std.proofs.Common.{◌≡◌, ℕ, zero, suc, ◌+◌, List, [], ◌∷◌, length, drop, Some, slice_get, ap, sym, ◌∙◌, add-one, append_assoc, ◌++◌}
+use Rattle.std.proofs.Common.{◌≡◌, ℕ, zero, suc, ◌+◌, List, [], ◌∷◌, drop, Some, slice_get, ap, sym, ◌∙◌, add-one, append_assoc, ◌++◌}
 use Rattle.prompt_run.specs.Report.{row_texts, trimmed, text_of}
 use Rattle.cell_grid.specs.declared.cell.Cell.{Cell}
-use Rattle.cell_grid.specs.Grid.{AllRows}
-
--- a line of a grid is as wide as the others
-pub width_at : (cols : ℕ) (lines : List (List Cell)) (at : ℕ) (line : List Cell) → AllRows cols lines → slice_get lines at ≡ Some line → length line ≡ cols
-width_at cols [] at line all is = cc
-width_at cols (first ∷ lines) zero line all is =
-    let same : first ≡ line = cc in ap length (sym same) ∙ all.0.long
-width_at cols (first ∷ lines) (suc at) line all is = width_at cols lines at line all.1 is
 
 -- the lines from one on are that one and those behind it
 pub drop_at : {A : Type 0} → (items : List A) (at : ℕ) (item : A) → slice_get items at ≡ Some item → drop at items ≡ item ∷ drop (at + 1) items

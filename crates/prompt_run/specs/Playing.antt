@@ -2,13 +2,14 @@
 use Rattle.std.specs.Prelude.{◌≡◌, ℕ, Bool, true, false, List, Option, Some, None}
 use Rattle.std.specs.List.{concat}
 use Rattle.prompt_settings.specs.Settings.{Settings}
-use Rattle.diff_render.specs.Frames.{Agree, Begins, WasDrawnAt}
+use Rattle.diff_render.specs.Frames.{Agree, Begins}
 use Rattle.script_lines.specs.declared.script_line.ScriptLine.{ScriptLine}
 use Rattle.session_core.specs.State.{has_ended}
 use Rattle.term_model.specs.Term.{Term}
 use Rattle.prompt_run.specs.FramesShown.{FramesShow}
 use Rattle.prompt_run.specs.Play.{Play, Played, played, went}
 use Rattle.prompt_run.specs.Script.{ended_by, final_by, settings_by}
+use Rattle.prompt_run.specs.Turn.{MayTurn}
 use Rattle.prompt_run.specs.declared.players.Player.{Player}
 
 -- the frames that were kept, joined, are those of the play's events: the terminal that obeyed them is this one
@@ -23,7 +24,7 @@ pub record Holds (player : Player) (p : Play) : Type 0 where
   pub state : player.session ≡ p.run.state
   pub agrees : Agree player.screen.terminal p.run.screen
   pub begins : has_ended p.run.state ≡ false → Begins p.run.state.size player.shown player.screen.terminal p.run.base
-  pub drawn : WasDrawnAt p.run.state.size player.shown
+  pub drawn : MayTurn p.run.state player.shown
   pub answers : player.answers ≡ p.answers
   pub reports : player.reports.items ≡ p.reports
   pub frames : KeepsFrames player.screen.frames p player.screen.terminal

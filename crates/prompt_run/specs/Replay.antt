@@ -5,10 +5,11 @@ use Rattle.std.specs.Str.{bytes_eq}
 use Rattle.std.specs.Io.{StartsWith}
 use Rattle.std.specs.Io.KnownBytes.{Appends}
 use Rattle.term_model.specs.Term.{Term}
-use Rattle.prompt_run.specs.FramesShown.{FramesShow}
+use Rattle.term_model.specs.Obeying.{obeyed_bytes}
+use Rattle.prompt_run.specs.FramesShown.{FramesShow, obeyed_each}
 use Rattle.prompt_run.specs.Play.{Play}
 use Rattle.prompt_run.specs.Script.{ended_by, final_by, final_play, output}
-use Rattle.prompt_run.specs.Source.{IsFrontOf}
+use Rattle.prompt_run.specs.Source.{ReadsScript}
 
 -- the word that asks for the frames in place of the reports
 abbrev pub frames_word : List ℕ
@@ -25,12 +26,13 @@ asks_frames (word ∷ []) = asked_by (bytes_eq word frames_word)
 asks_frames (word ∷ next ∷ words) = None
 
 -- the bytes of the frames of a play: there is one frame for each event, and the terminal that obeys them, and takes each resize with
--- the run, shows the run's screen after each
+-- the run, shows the run's screen after each; any terminal that obeys the joined frames at once does what it does by each of them
 pub record IsFramesOf (p : Play) (bytes : List ℕ) : Type 0 where
   pub frames : List (List ℕ)
   pub last : Term
   pub show : FramesShow p.first.screen p.first p.events frames last p.run
   pub joined : bytes ≡ concat frames
+  pub at_once : (t : Term) → obeyed_bytes t bytes ≡ obeyed_each t frames
 
 -- what a replay puts on its sink
 abbrev pub IsOutput : Bool → List ℕ → List ℕ → Type 0
@@ -42,24 +44,24 @@ abbrev pub Closes : Bool → Play → Option ℕ → List ℕ → ℕ → Type 0
 Closes false p refused bytes status = (bytes ≡ (ended_by p refused).0) × (status ≡ (ended_by p refused).1)
 Closes true p refused bytes status = IsFramesOf (final_by p refused) bytes × (status ≡ (ended_by p refused).1)
 
--- the script that a source had, where it tells its bytes, was played to its status, and all that it prints was put on the sink
-abbrev pub PrintsOutput : Bool → Option (List ℕ) → Option (List ℕ) → Option (List ℕ) → ℕ → Type 0
-PrintsOutput frames left before now status =
-    (script bytes : List ℕ) × IsFrontOf left script × IsOutput frames script bytes × Appends before now bytes × (status ≡ (output script).1)
+-- the script that was read of a source was played to its status, and all that it prints was put on the sink
+abbrev pub PrintsOutput : Bool → Option (List ℕ) → Option (List ℕ) → Option (List ℕ) → Option (List ℕ) → ℕ → Type 0
+PrintsOutput frames source left before now status =
+    (script bytes : List ℕ) × ReadsScript source left script × IsOutput frames script bytes × Appends before now bytes × (status ≡ (output script).1)
 
 -- some bytes from the front of what the script prints were put on the sink
-abbrev pub PrintsPart : Bool → Option (List ℕ) → Option (List ℕ) → Option (List ℕ) → Type 0
-PrintsPart frames left before now =
-    (script bytes : List ℕ) × IsFrontOf left script × IsOutput frames script bytes
+abbrev pub PrintsPart : Bool → Option (List ℕ) → Option (List ℕ) → Option (List ℕ) → Option (List ℕ) → Type 0
+PrintsPart frames source left before now =
+    (script bytes : List ℕ) × ReadsScript source left script × IsOutput frames script bytes
     × ((part : List ℕ) × StartsWith bytes part × Appends before now part)
 
 -- what each status says of the bytes that were put on the sink: nothing for words that are not known, for a source that failed and where
 -- there was no memory, a part where the sink failed, and else the whole output
-pub record ReplaysTo (frames : Bool) (left before now : Option (List ℕ)) (status : ℕ) : Type 0 where
-  pub whole : (status ≡ 2 → ⊥) → (status ≡ 3 → ⊥) → (status ≡ 5 → ⊥) → (status ≡ 8 → ⊥) → PrintsOutput frames left before now status
-  pub part : status ≡ 5 → PrintsPart frames left before now
+pub record ReplaysTo (frames : Bool) (source left before now : Option (List ℕ)) (status : ℕ) : Type 0 where
+  pub whole : (status ≡ 2 → ⊥) → (status ≡ 3 → ⊥) → (status ≡ 5 → ⊥) → (status ≡ 8 → ⊥) → PrintsOutput frames source left before now status
+  pub part : status ≡ 5 → PrintsPart frames source left before now
 
 -- words of the command replay; others are told by the status alone
-abbrev pub Replays : Option Bool → Option (List ℕ) → Option (List ℕ) → Option (List ℕ) → ℕ → Type 0
-Replays None left before now status = Unit {0}
-Replays (Some frames) left before now status = ReplaysTo frames left before now status
+abbrev pub Replays : Option Bool → Option (List ℕ) → Option (List ℕ) → Option (List ℕ) → Option (List ℕ) → ℕ → Type 0
+Replays None source left before now status = Unit {0}
+Replays (Some frames) source left before now status = ReplaysTo frames source left before now status

@@ -1,5 +1,6 @@
 -- The printed text of a terminal's screen.
-use Rattle.std.specs.Prelude.{ℕ, ◌+◌, Bool, true, false, not, ◌==◌, max, List, [], ◌∷◌, ◌++◌, map, take, drop, flat_map, if◌then◌else◌, codes, decimal, encode_utf8_all}
+use Rattle.std.specs.Prelude.{ℕ, ◌+◌, Bool, true, false, ◌==◌, List, [], ◌∷◌, ◌++◌, map, take, drop, flat_map, if◌then◌else◌, codes, decimal, encode_utf8_all}
+use Rattle.std.specs.List.{list_all}
 use Rattle.term_model.specs.Term.{Term}
 use Rattle.cell_grid.specs.declared.cell.Cell.{Cell}
 use Rattle.cell_grid.specs.declared.cell.Cell.TheVariants.{Lead, Tail}
@@ -10,27 +11,26 @@ text_of [] = []
 text_of (Lead text width attrs ∷ cells) = text ++ text_of cells
 text_of (Tail ∷ cells) = text_of cells
 
--- the place behind the last of some things that pass a test, of which the first stands at `at`: `end` where there is none
-abbrev pub behind_last : {A : Type 0} → (A → Bool) → ℕ → ℕ → List A → ℕ
-behind_last test at end [] = end
-behind_last test at end (thing ∷ things) = behind_last test (at + 1) (if test thing then at + 1 else end) things
+-- some things without those at the end that pass a test: where all that are left pass it, none stands
+abbrev pub without_last : {A : Type 0} → (A → Bool) → List A → List A
+without_last test [] = []
+without_last test (thing ∷ things) = if list_all test (thing ∷ things) then [] else thing ∷ without_last test things
 
--- a character that is no space
-abbrev pub is_ink : ℕ → Bool
-is_ink char = not (char == 32)
+abbrev pub is_space : ℕ → Bool
+is_space char = char == 32
 
 -- a text without the spaces at its end
 abbrev pub trimmed : List ℕ → List ℕ
-trimmed text = take (behind_last is_ink 0 0 text) text
+trimmed text = without_last is_space text
 
--- a text that is not empty
-abbrev pub has_text : List ℕ → Bool
-has_text [] = false
-has_text (char ∷ chars) = true
+-- a text that is empty
+abbrev pub has_no_text : List ℕ → Bool
+has_no_text [] = true
+has_no_text (char ∷ chars) = false
 
--- the rows down to the later of the cursor's row and the last row with text
+-- the rows down to the cursor's, and those behind it down to the last row with text
 abbrev pub reported : ℕ → List (List ℕ) → List (List ℕ)
-reported row texts = take (max (row + 1) (behind_last has_text 0 0 texts)) texts
+reported row texts = take (row + 1) texts ++ without_last has_no_text (drop (row + 1) texts)
 
 -- a row of the report: `|`, the text in UTF-8 and a line feed
 abbrev pub report_row : List ℕ → List ℕ

@@ -10,7 +10,6 @@ use Rattle.script_lines.specs.Lines.{lines_of}
 use Rattle.script_lines.specs.Spelling.{spelling}
 use Rattle.session_core.specs.declared.outcomes.Outcome.{Outcome}
 use Rattle.session_core.specs.declared.outcomes.Outcome.TheVariants.{Accepted, EndOfFile, Interrupted}
-use Rattle.prompt_run.specs.declared.readers.TheConstants.{MAX_SCRIPT}
 use Rattle.prompt_run.specs.Play.{Play, Played, begun, done, line_in, played}
 use Rattle.prompt_run.specs.Report.{report_of}
 
@@ -44,9 +43,9 @@ configured long (text ∷ texts) settings number =
     (λ more. configured long texts more (number + 1))
     (played long (text ∷ texts) (begun settings) number)
 
--- the whole script
+-- the whole script, which is too long above 67,108,864 bytes
 abbrev pub whole_play : List ℕ → Played
-whole_play script = configured (nat_lt MAX_SCRIPT (length script)) (lines_of script) no_settings 1
+whole_play script = configured (nat_lt 67108864 (length script)) (lines_of script) no_settings 1
 
 -- the status of a prompt that has ended
 abbrev pub status_of : Option Outcome → ℕ

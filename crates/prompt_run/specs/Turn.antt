@@ -1,12 +1,12 @@
 -- What a contract sees of a turn.
 use Rattle.std.specs.Prelude.{◌≡◌, ℕ, false, List, Option, Some, None, is_some}
 use Rattle.cell_grid.specs.Size.{Extent}
-use Rattle.diff_render.specs.Frames.{IsFrame}
+use Rattle.diff_render.specs.Frames.{IsFrame, WasDrawnAt}
 use Rattle.diff_render.specs.declared.shown.OnScreen.{OnScreen}
 use Rattle.session_core.specs.declared.outcomes.Outcome.{Outcome}
 use Rattle.session_core.specs.declared.outcomes.Outcome.TheVariants.{Accepted, EndOfFile, Interrupted}
 use Rattle.session_core.specs.Draw.{draw}
-use Rattle.session_core.specs.State.{State, HasFailed, failed}
+use Rattle.session_core.specs.State.{State, HasFailed, failed, has_ended}
 use Rattle.session_core.specs.Next.{next}
 use Rattle.events.specs.declared.events.Event.{Event}
 use Rattle.prompt_run.specs.Run.{shown_at}
@@ -32,6 +32,10 @@ Leaves faults.NoMemory event old new = HasFailed new
 abbrev pub ShowsState : OnScreen → State → List ℕ → Type 0
 ShowsState shown s frame = IsFrame s.size shown (draw s) (is_some s.outcome) false frame
 
--- the screen took one frame, which turns what was shown, at this size before, into the drawing of the state
-abbrev pub TakesState : {S : Type 0} → (S → List ℕ → S → Type 0) → S → S → Extent → OnScreen → State → Type 0
-TakesState took old new before shown s = (frame : List ℕ) × took old frame new × ShowsState (shown_at before s.size shown) s frame
+-- the screen was given one frame, and took or missed it, which turns what was shown, at this size before, into the drawing of the state
+abbrev pub GivesState : {S : Type 0} → (S → List ℕ → S → Type 0) → S → S → Extent → OnScreen → State → Type 0
+GivesState given old new before shown s = (frame : List ℕ) × given old frame new × ShowsState (shown_at before s.size shown) s frame
+
+-- what is shown may be used in a turn of a session: where the session has not ended, it was drawn at its size, or its size was forgotten
+abbrev pub MayTurn : State → OnScreen → Type 0
+MayTurn s shown = has_ended s ≡ false → WasDrawnAt s.size shown

@@ -1,6 +1,6 @@
 //! Playing the events of a script over a model of a terminal.
 ghost use Rattle.std.specs.Prelude.{◌≡◌, ◌≤◌, ◌++◌, ℕ, IfOk, OnOk, List, is_some};
-ghost use Rattle.diff_render.specs.Frames.{WasDrawnAt, screen_after};
+ghost use Rattle.diff_render.specs.Frames.{screen_after};
 ghost use Rattle.session_core.specs.Draw.{draw};
 ghost use Rattle.session_core.specs.Next.{next};
 ghost use Rattle.prompt_run.specs.Play.{Play, accepted, begun, done, reporting, terminal_size, waiting};
@@ -9,7 +9,7 @@ ghost use Rattle.prompt_run.specs.Run.{shown_at, size_after, terminal_at};
 ghost use Rattle.prompt_run.specs.Script.{status_of};
 ghost use Rattle.prompt_run.specs.Terminals.{Keeps, Obeys};
 ghost use Rattle.term_model.specs.Term.{IsTerminal};
-ghost use Rattle.prompt_run.specs.Turn.{ShowsState};
+ghost use Rattle.prompt_run.specs.Turn.{MayTurn, ShowsState};
 
 use crate::reports::write_screen;
 use crate::statuses::{ACCEPTED, END_OF_FILE, INTERRUPTED, Status};
@@ -153,7 +153,7 @@ fn advance(
     event: Event,
     screen: &mut TerminalScreen,
 ) -> Result<(), NoMemory>
-    requires drawn { WasDrawnAt session.old.size shown.old }
+    requires drawn { MayTurn session.old shown.old }
     ensures next { OnOk result (session.new ≡ next session.old event) }
     ensures shows { OnOk result ((frame : List ℕ) × Obeys screen.old.terminal frame screen.new.terminal × Keeps screen.old.frames frame screen.new.frames
         × ShowsState (shown_at session.old.size session.new.size shown.old) session.new frame) }

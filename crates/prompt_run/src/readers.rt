@@ -2,7 +2,7 @@
 ghost use Rattle.std.specs.Prelude.{◌≡◌, ◌+◌, ◌≤◌, ◌<◌, [], length, vec_len, Err, IfOk, OnOk, MatchBool};
 ghost use Rattle.std.specs.Io.KnownBytes.{Consumes, IsAtEnd};
 ghost use Rattle.causes.specs.Faults.{Rose};
-ghost use Rattle.prompt_run.specs.Source.{IsFrontOf, IsRead, Reads};
+ghost use Rattle.prompt_run.specs.Source.{IsRead, Reads, ReadsScript};
 
 use ports::Source;
 use std::alloc::{AllocError, Global};
@@ -33,17 +33,16 @@ impl From<AllocError> for ReadFault {
     }
 }
 
-#[tactic(auto, using(crate::proofs::SourceLemmas::front_of))]
+#[tactic(auto, using(crate::proofs::SourceLemmas::reads_script))]
 /// Reads the source to its end, or to the first byte behind the most bytes of a script.
 pub fn read_script<R: Source>(alloc: Global, source: &mut R) -> Result<Vec<u8>, ReadFault>
-    ensures script { IfOk result (λ script. IsFrontOf (R.supply source.old).left script.items) }
+    ensures script { IfOk result (λ script. ReadsScript (R.supply source.old).left (R.supply source.new).left script.items) }
     ensures later { (R.supply source.old).faults ≤ (R.supply source.new).faults }
     ensures failed { result ≡ Err ReadFault.Failed → Rose (R.supply source.old).faults (R.supply source.new).faults }
 {
     let mut script = Vec::new(alloc);
     let mut buffer = new_buffer(alloc, READ_SIZE)?;
     read_all(source, buffer.as_mut_slice(), &mut script)?;
-    script.truncate(MAX_SCRIPT + 1);
     Ok(script)
 }
 
@@ -58,11 +57,14 @@ fn read_all<R: Source>(
     requires empty { script.old.items ≡ [] }
     ensures bytes { OnOk result (Consumes (R.supply source.old).left (R.supply source.new).left script.new.items) }
     ensures read { OnOk result (IsRead (R.supply source.new).left script.new.items) }
+    ensures few { OnOk result (length script.new.items ≤ 67108865) }
     ensures later { (R.supply source.old).faults ≤ (R.supply source.new).faults }
     ensures failed { result ≡ Err ReadFault.Failed → Rose (R.supply source.old).faults (R.supply source.new).faults }
 {
     for _ in 0..=MAX_SCRIPT {
-        let more = read_once(source, buffer, script)?;
+        let room = buffer.len().min(MAX_SCRIPT + 1 - script.len());
+        let (into, _) = buffer.split_at_mut(room);
+        let more = read_once(source, into, script)?;
         if !more || script.len() > MAX_SCRIPT {
             return Ok(());
         }
@@ -70,7 +72,7 @@ fn read_all<R: Source>(
     Ok(())
 }
 
-/// A buffer of this many bytes.
+/// Returns a buffer of this many bytes.
 fn new_buffer(alloc: Global, size: usize) -> Result<Vec<u8>, AllocError>
     requires { 0 < size }
     ensures { IfOk result (λ buffer. 0 < length buffer.items) }
@@ -88,6 +90,7 @@ fn read_once<R: Source>(
     ensures later { (R.supply source.old).faults ≤ (R.supply source.new).faults }
     ensures failed { result ≡ Err ReadFault.Failed → Rose (R.supply source.old).faults (R.supply source.new).faults }
     ensures bytes { OnOk result (Reads (R.supply source.old).left (R.supply source.new).left script.old.items script.new.items) }
+    ensures few { OnOk result (length script.new.items ≤ length script.old.items + length buffer.old) }
     ensures more { IfOk result (λ more. MatchBool more (vec_len script.old < vec_len script.new) (IsAtEnd (R.supply source.new).left)) }
 {
     let count = match source.read(buffer) {

@@ -14,8 +14,8 @@ use std::alloc::Global;
 ///
 /// What a script prints, and its status, are a function of its bytes: the reports that it asks for, the report of the last screen
 /// of its run, the accepted lines and the status, or the number of the first line that is outside the grammar. With `--frames` the
-/// bytes of the frames stand in place of all that, one frame for each event. It always returns: it reads the source to its end, or to
-/// the first byte behind the most bytes of a script.
+/// bytes of the frames stand in place of all that, one frame for each event. It always returns: it takes all bytes of the source,
+/// or those up to the first behind the most bytes of a script.
 pub fn replay_words<R: Source, O: Sink>(
     alloc: Global,
     words: &[String],
@@ -23,7 +23,8 @@ pub fn replay_words<R: Source, O: Sink>(
     out: &mut O,
 ) -> Status
     ensures words { (result ≡ UNKNOWN_WORDS) ↔ (asks_frames (map string_bytes words.now) ≡ None) }
-    ensures output { Replays (asks_frames (map string_bytes words.now)) (R.supply source.old).left (O.taken out.old) (O.taken out.new) result }
+    ensures output { Replays (asks_frames (map string_bytes words.now)) (R.supply source.old).left (R.supply source.new).left
+        (O.taken out.old) (O.taken out.new) result }
 
     // Nothing is put where nothing was played to its end.
     ensures unread { result ≡ UNKNOWN_WORDS → source.new ≡ source.old }
@@ -54,7 +55,7 @@ pub fn replay_words<R: Source, O: Sink>(
     }
 }
 
-/// Whether the words ask for frames, where they are words of the command.
+/// Tells whether the words ask for frames, where they are words of the command.
 fn read_words(words: &[String]) -> Option<bool>
     ensures { result ≡ asks_frames (map string_bytes words.now) }
 {

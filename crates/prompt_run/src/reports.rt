@@ -1,13 +1,13 @@
 //! The printed text of a terminal's screen.
-ghost use Rattle.std.specs.Prelude.{◌≡◌, ◌+◌, ◌≤◌, ◌<◌, ◌++◌, max, length, take, drop, flat_map, map, IfOk, OnOk};
-ghost use Rattle.prompt_run.specs.Report.{text_of, behind_last, is_ink, trimmed, has_text, reported, report_row, heading, row_texts, report_of};
+ghost use Rattle.std.specs.Prelude.{◌≡◌, ◌+◌, ◌≤◌, ◌<◌, ◌++◌, length, take, drop, flat_map, map, IfOk, OnOk};
+ghost use Rattle.prompt_run.specs.Report.{text_of, without_last, trimmed, has_no_text, reported, report_row, heading, row_texts, report_of};
 
-use cell_grid::Cell;
+use cell_grid::{Cell, Size};
 use std::alloc::Global;
 use term_model::Terminal;
 use text_doc::{Lines, NoMemory, Text};
 
-/// The characters of a row without the spaces at its end.
+/// Returns the characters of a row without the spaces at its end.
 pub fn row_text(alloc: Global, cells: &[Cell]) -> Result<Text, NoMemory>
     ensures text { IfOk result (λ text. text ≡ trimmed (text_of cells.now)) }
 {
@@ -17,7 +17,7 @@ pub fn row_text(alloc: Global, cells: &[Cell]) -> Result<Text, NoMemory>
     Ok(Text::from_vec(chars))
 }
 
-/// The characters of a row from left to right.
+/// Returns the characters of a row from left to right.
 fn row_chars(alloc: Global, cells: &[Cell]) -> Result<Vec<char>, NoMemory>
     ensures chars { IfOk result (λ chars. chars.items ≡ text_of cells.now) }
 {
@@ -30,15 +30,16 @@ fn row_chars(alloc: Global, cells: &[Cell]) -> Result<Vec<char>, NoMemory>
     Ok(chars)
 }
 
-/// The place behind the last character that is no space.
+/// Returns the place behind the last character that is no space.
 fn text_end(chars: &[char]) -> usize
-    ensures end { result ≡ behind_last is_ink 0 0 chars.now }
+    ensures end { take result chars.now ≡ trimmed chars.now }
 {
     let mut end = 0;
     for (at, c) in chars.iter().enumerate() {
-        if *c != ' ' {
-            end = at + 1;
+        if *c == ' ' {
+            continue;
         }
+        end = at + 1;
     }
     end
 }
@@ -48,21 +49,11 @@ pub fn write_screen(out: &mut Vec<u8>, terminal: &Terminal) -> Result<(), NoMemo
     ensures report { OnOk result (out.new.items ≡ out.old.items ++ report_of terminal.now) }
 {
     let texts = visible_texts(*out.allocator(), terminal)?;
-    write_report(out, window_of(terminal), terminal.cursor(), &texts)?;
+    write_report(out, terminal.size(), terminal.cursor(), &texts)?;
     Ok(())
 }
 
-/// The rows and the columns of the terminal.
-pub fn window_of(terminal: &Terminal) -> (u32, u32)
-    ensures rows { result.0 ≡ terminal.now.rows }
-    ensures cols { result.1 ≡ terminal.now.cols }
-{
-    let rows = terminal.lines() - terminal.top();
-    let cols = terminal.line(terminal.top()).len();
-    (rows as u32, cols as u32)
-}
-
-/// The texts of the rows that are visible.
+/// Returns the texts of the rows that are visible.
 fn visible_texts(alloc: Global, terminal: &Terminal) -> Result<Lines, NoMemory>
     ensures texts { IfOk result (λ texts. texts ≡ row_texts (drop terminal.now.top terminal.now.lines)) }
 {
@@ -78,12 +69,12 @@ fn visible_texts(alloc: Global, terminal: &Terminal) -> Result<Lines, NoMemory>
 /// down to the later of the cursor's row and the last row with text.
 pub fn write_report(
     out: &mut Vec<u8>,
-    size: (u32, u32),
+    size: Size,
     cursor: (u32, u32),
     texts: &Lines,
 ) -> Result<(), NoMemory>
     ensures report { OnOk result (out.new.items
-        ≡ out.old.items ++ (heading size.0 size.1 cursor.0 cursor.1 ++ flat_map report_row (reported cursor.0 texts.now))) }
+        ≡ out.old.items ++ (heading size.rows size.cols cursor.0 cursor.1 ++ flat_map report_row (reported cursor.0 texts.now))) }
 {
     write_heading(out, size, cursor)?;
     write_rows(out, shown_rows(texts.as_slice(), cursor.0))?;
@@ -91,38 +82,41 @@ pub fn write_report(
 }
 
 /// Puts the first line of a report behind what was written.
-fn write_heading(out: &mut Vec<u8>, size: (u32, u32), cursor: (u32, u32)) -> Result<(), NoMemory>
-    ensures heading { OnOk result (out.new.items ≡ out.old.items ++ heading size.0 size.1 cursor.0 cursor.1) }
+fn write_heading(out: &mut Vec<u8>, size: Size, cursor: (u32, u32)) -> Result<(), NoMemory>
+    ensures heading { OnOk result (out.new.items ≡ out.old.items ++ heading size.rows size.cols cursor.0 cursor.1) }
 {
     let alloc = *out.allocator();
-    let (rows, cols) = size;
+    let (rows, cols) = (size.rows(), size.cols());
     let (row, col) = cursor;
     let heading = format!(in alloc; "screen {rows} {cols} {row} {col}\n")?;
     out.extend_from_slice(heading.as_bytes())?;
     Ok(())
 }
 
-/// The rows down to the later of the cursor's row and the last row with text.
+/// Returns the rows down to the later of the cursor's row and the last row with text.
 fn shown_rows(texts: &[Text], row: u32) -> &[Text]
     ensures shown { result.now ≡ reported row texts.now }
 {
-    let end = rows_end(texts).max(row as usize + 1);
-    if end >= texts.len() {
+    let first = row as usize + 1;
+    if first >= texts.len() {
         return texts;
     }
-    let (shown, _) = texts.split_at(end);
+    let (_, below) = texts.split_at(first);
+    let (shown, _) = texts.split_at(first + rows_end(below));
     shown
 }
 
-/// The place behind the last text that is not empty.
+/// Returns the place behind the last text that is not empty.
 fn rows_end(texts: &[Text]) -> usize
-    ensures end { result ≡ behind_last has_text 0 0 texts.now }
+    ensures end { take result texts.now ≡ without_last has_no_text texts.now }
+    ensures within { result ≤ length texts.now }
 {
     let mut end = 0;
     for (at, text) in texts.iter().enumerate() {
-        if !text.is_empty() {
-            end = at + 1;
+        if text.is_empty() {
+            continue;
         }
+        end = at + 1;
     }
     end
 }

@@ -149,7 +149,6 @@ fn tells_faults_apart(rt: HostRuntime) -> Result<(), Fail> {
 }
 
 #[test]
-#[tactic(auto, using(crate::proofs::TurnLemmas::drawn_behind, crate::proofs::TurnLemmas::drawn_behind_fault))]
 fn ends_at_a_refused_frame(rt: HostRuntime) -> Result<(), Fail> {
     let alloc = rt.alloc();
     let size = Size::new(24, 80).ok_or("a size")?;

@@ -1,12 +1,12 @@
 //! One turn: an event, the step that it makes, and the frame that shows the state after it.
 ghost use Rattle.std.specs.Prelude.{◌≡◌, ◌≤◌, ◌↔◌, IsTrue, Err, IfOk, IfErr, OnOk, is_some};
 ghost use Rattle.causes.specs.Faults.{Rose};
-ghost use Rattle.diff_render.specs.Frames.{WasDrawnAt, screen_after};
+ghost use Rattle.diff_render.specs.Frames.{screen_after};
 ghost use Rattle.session_core.specs.Draw.{draw};
 ghost use Rattle.session_core.specs.Next.{next};
 ghost use Rattle.session_core.specs.State.{has_ended};
 ghost use Rattle.prompt_run.specs.Run.{same_size, shown_at};
-ghost use Rattle.prompt_run.specs.Turn.{turned_of, Leaves, TakesState};
+ghost use Rattle.prompt_run.specs.Turn.{turned_of, GivesState, Leaves, MayTurn};
 
 use cell_grid::Size;
 use diff_render::{Shown, frame};
@@ -42,7 +42,6 @@ pub enum TurnFault {
     NoMemory,
 }
 
-#[tactic(auto, using(crate::proofs::ShowLemmas::drawn_at))]
 /// Does the step of the event, makes the frame from what is shown to the drawing of the new state, and gives it to the
 /// screen in one call, an empty frame too. Where the event brings another size, the terminal has it when it obeys the frame.
 pub fn turn<S: Screen>(
@@ -52,37 +51,49 @@ pub fn turn<S: Screen>(
     event: Event,
     screen: &mut S,
 ) -> Result<Turned, TurnFault>
-    requires drawn { WasDrawnAt session.old.size shown.old }
+    requires drawn { MayTurn session.old shown.old }
     ensures next { OnOk result (session.new ≡ next session.old event) }
     ensures answer { IfOk result (λ turned. turned ≡ turned_of session.new.outcome) }
 
-    // A terminal that showed what was shown, takes a resize with the session, and obeys the frame shows the new state.
-    ensures shows { OnOk result (TakesState S.took screen.old screen.new session.old.size shown.old session.new) }
+    // A terminal that showed what was shown, takes a resize with the session, and obeys the frame shows the new state. The frame
+    // never asks for the cursor's place.
+    ensures shows { OnOk result (GivesState S.took screen.old screen.new session.old.size shown.old session.new) }
     ensures shown { OnOk result (shown.new ≡ screen_after (is_some session.new.outcome) (draw session.new) session.new.size) }
 
     ensures ended { (result ≡ Err TurnFault.Ended) ↔ IsTrue (has_ended session.old) }
-    ensures screen { result ≡ Err TurnFault.ScreenFault → Rose (S.faults screen.old) (S.faults screen.new) }
     ensures leaves { IfErr result (λ fault. Leaves fault event session.old session.new) }
+    ensures idle { result ≡ Err TurnFault.Ended → screen.new ≡ screen.old }
+    ensures kept { result ≡ Err TurnFault.Ended → shown.new ≡ shown.old }
+
+    // A screen that refuses the frame is called no second time.
+    ensures screen { result ≡ Err TurnFault.ScreenFault → Rose (S.faults screen.old) (S.faults screen.new) }
+    ensures missed { result ≡ Err TurnFault.ScreenFault
+        → GivesState S.missed screen.old screen.new session.old.size shown.old (next session.old event) }
     ensures refused { result ≡ Err TurnFault.ScreenFault
         → shown.new ≡ screen_after (is_some (next session.old event).outcome) (draw (next session.old event)) (next session.old event).size }
 
     // What could not be made is not given: the screen took nothing.
     ensures nothing { result ≡ Err TurnFault.NoMemory → screen.new ≡ screen.old }
+    ensures told { result ≡ Err TurnFault.NoMemory → shown.new ≡ shown_at session.old.size session.new.size shown.old }
     ensures later { S.faults screen.old ≤ S.faults screen.new }
+    ensures again { MayTurn session.new shown.new }
 {
     let before = session.size();
     match session.step(event) {
         Ok(()) => {}
         Err(StepFault::Ended) => return Err(TurnFault::Ended),
-        Err(StepFault::NoMemory) => return Err(TurnFault::NoMemory),
+        Err(StepFault::NoMemory) => {
+            tell_size(shown, before, session.size());
+            return Err(TurnFault::NoMemory);
+        }
     }
+    let size = session.size();
+    tell_size(shown, before, size);
     let Ok(drawing) = session.drawing() else {
         session.fail();
         return Err(TurnFault::NoMemory);
     };
     let done = session.outcome().is_some();
-    let size = session.size();
-    tell_size(shown, before, size);
     let Ok(bytes) = frame(alloc, shown, &drawing, size, done, false) else {
         session.fail();
         return Err(TurnFault::NoMemory);
@@ -103,14 +114,14 @@ fn tell_size(shown: &mut Shown, before: Size, now: Size)
     }
 }
 
-/// Whether two sizes are equal.
+/// Tells whether two sizes are equal.
 pub fn is_same_size(a: Size, b: Size) -> bool
     ensures { result ≡ same_size a b }
 {
     a.rows() == b.rows() && a.cols() == b.cols()
 }
 
-/// What the session's outcome leaves the prompt at.
+/// Returns what the session's outcome leaves the prompt at.
 fn outcome_of(session: &Session) -> Turned
     ensures { result ≡ turned_of session.now.outcome }
 {

@@ -6,6 +6,7 @@ use Rattle.prompt_run.proofs.readers.read_all.Given as goal
 abbrev pub invariant-loop : goal.invariant-loop
 invariant-loop g l = record {
   grows : l.counter ≤ vec_len l.script;
+  few : vec_len l.script ≤ 67108864;
   taken : Consumes (g.R.Source.supply l.fn.source).left (g.R.Source.supply l.source).left l.script.items;
   later : (g.R.Source.supply l.fn.source).faults ≤ (g.R.Source.supply l.source).faults;
 }

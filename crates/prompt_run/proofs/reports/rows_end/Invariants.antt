@@ -1,7 +1,7 @@
-use Rattle.std.proofs.Common.{◌≡◌, drop}
-use Rattle.prompt_run.specs.Report.{behind_last, has_text}
+use Rattle.std.proofs.Common.{◌≡◌, ◌≤◌, take}
+use Rattle.prompt_run.specs.Report.{has_no_text, without_last}
 use Rattle.prompt_run.proofs.reports.rows_end.Given as goal
 
--- going on from the last place so far gives the last place of all
+-- the texts so far end there
 abbrev pub invariant-loop-at : goal.invariant-loop-at
-invariant-loop-at l = behind_last has_text l.at l.end (drop l.at l.texts) ≡ behind_last has_text 0 0 l.texts
+invariant-loop-at l = record { within : l.end ≤ l.at; so_far : take l.end l.texts ≡ without_last has_no_text (take l.at l.texts) }

@@ -1,7 +1,7 @@
-use Rattle.std.proofs.Common.{◌≡◌, drop}
-use Rattle.prompt_run.specs.Report.{behind_last, is_ink}
+use Rattle.std.proofs.Common.{◌≡◌, ◌≤◌, take}
+use Rattle.prompt_run.specs.Report.{trimmed}
 use Rattle.prompt_run.proofs.reports.text_end.Given as goal
 
--- going on from the last place so far gives the last place of all
+-- the characters so far are trimmed there
 abbrev pub invariant-loop-at : goal.invariant-loop-at
-invariant-loop-at l = behind_last is_ink l.at l.end (drop l.at l.chars) ≡ behind_last is_ink 0 0 l.chars
+invariant-loop-at l = record { within : l.end ≤ l.at; so_far : take l.end l.chars ≡ trimmed (take l.at l.chars) }
