@@ -1,14 +1,15 @@
 -- How a state follows from the fields of a buffer.
-use Rattle.std.proofs.Common.{◌≡◌, ℕ, ◌≤◌, List, [], ◌∷◌, ◌++◌, ◌<◌, length, get_or, slice_set, Option, Some, None, sym, ap, refl, ◌∙◌, arith, length-append}
+use Rattle.std.proofs.Common.{◌≡◌, ℕ, ◌≤◌, List, [], ◌∷◌, ◌++◌, ◌<◌, length, get_or, slice_set, Option, Some, None, sym, ap, refl, subst, ◌∙◌, arith, length-append}
 use Rattle.std.proofs.Math.Seq.{get_or-append_seam}
 use Rattle.std.proofs.lemmas.List.{length-set, get_or-set_same, get_or-set_other, set-set, set_at, set_comm, set-get_or}
 use Rattle.std.proofs.lemmas.List.Edits.{swap_is}
 use Rattle.std.proofs.lemmas.List.Elements.{All-get_or, All-set, All-append, All-cons, All-nil, All-drop}
 use Rattle.std.specs.List.{All, swap}
+use Rattle.std.specs.Option.{ForSome}
 use Rattle.text_doc.specs.Document.{Document, IsDocument}
 use Rattle.edit_buffer.specs.declared.menus.Menu.{Menu}
 use Rattle.edit_buffer.specs.declared.buffers.Buffer.TheInside.{Inside}
-use Rattle.edit_buffer.specs.BufferState.{BufferState, IsBufferState, line_of, with_document}
+use Rattle.edit_buffer.specs.BufferState.{BufferState, IsBufferState, IsMenu, line_of, with_document}
 use Rattle.edit_buffer.specs.Insides.{state_of}
 use Rattle.edit_buffer.specs.Menus.{choice, chosen_in, cancelled_in}
 use Rattle.edit_buffer.specs.Moves.{newest, opened, moved_to}
@@ -34,6 +35,24 @@ state_of-chosen b m which d present chosen =
     rw (present, chosen)
     (ap (λ lines. record (state_of b) { doc = choice m which; lines = lines; menu = Some (record m { chosen = which }) })
     (sym (set-set b.lines.items b.index b.doc.text (choice m which).text)))
+
+-- the buffer after a choice in its menu
+pub IsBufferState-chosen : (b : BufferState) (m : Menu) (which : Option ℕ) → IsBufferState b → b.menu ≡ Some m → IsDocument (choice m which)
+    → ForSome which (λ i. i < length m.items) → IsBufferState (chosen_in b.menu b which)
+IsBufferState-chosen b m which kept present document within =
+    let with_doc = IsBufferState-with_document b (choice m which) kept document in
+    let before : IsMenu m = kept.menu m present in
+    let after : IsMenu (record m { chosen = which }) =
+    record { original = before.original; few = before.few; reach = before.reach; chosen = within } in
+    let P : Option Menu → Type 0 = λ o. IsBufferState (chosen_in o b which) in
+    subst P (sym present) (record {
+      document = with_doc.document;
+      index = with_doc.index;
+      present = with_doc.present;
+      short = with_doc.short;
+      pairs = with_doc.pairs;
+      menu = λ n e. let same : record m { chosen = which } ≡ n = cc e in subst IsMenu same after;
+    })
 
 -- the original without its mark, and no menu
 pub state_of-cancelled : (b : Inside) (m : Menu) (d : Document) (left : Option Menu) → b.menu ≡ Some m → left ≡ None → d ≡ choice m None → state_of (record b { doc = d; menu = left }) ≡ cancelled_in b.menu (state_of b)
