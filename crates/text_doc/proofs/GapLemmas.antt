@@ -1,5 +1,5 @@
 -- What moving and writing characters beside a gap makes of the text on its sides.
-use Rattle.std.proofs.Common.{◌≡◌, ℕ, ◌+◌, ◌-◌, ◌≤◌, List, [], ◌++◌, length, take, drop, sym, ap, subst, ◌∙◌, arith, append_assoc, append-nil, refl}
+use Rattle.std.proofs.Common.{◌≡◌, ℕ, ◌+◌, ◌-◌, ◌≤◌, List, ◌++◌, length, take, drop, sym, ap, subst, ◌∙◌, arith, append_assoc, append-nil, refl}
 use Rattle.std.proofs.Math.Seq.{take-append_seam, drop-append_seam, paste}
 use Rattle.std.proofs.lemmas.List.{length-append, length-take-le, drop-take, drop_all, take_all}
 use Rattle.std.proofs.lemmas.Slice.{drop-append-drop}

@@ -5,3 +5,4 @@ pub mod RowLaws
 pub mod GapLemmas
 pub mod Joins
 pub mod RowCounts
+mod LineCuts

@@ -6,3 +6,4 @@ pub mod Rows
 pub mod Finds
 pub mod Brackets
 pub mod Gap
+pub mod Lines

@@ -9,6 +9,7 @@ mod faults;
 mod finds;
 mod gap_texts;
 mod indexed_texts;
+mod lines;
 mod places;
 mod rows;
 #[cfg(test)]
@@ -18,5 +19,6 @@ mod words;
 pub use completions::{Completion, Completions};
 pub use documents::{Doc, MAX_LENGTH};
 pub use faults::InsertFault;
+pub use lines::{TextUnit, cut_line};
 pub use sequences::{Bytes, Item, Lines, NoMemory, Sequence, Text};
 pub use words::{Class, class_of};

@@ -1,5 +1,5 @@
 //! Places worked out by hand, edits, copies, and each call that allocates once with ample memory.
-use crate::{Completion, Completions, Doc, InsertFault, MAX_LENGTH, Text};
+use crate::{Completion, Completions, Doc, InsertFault, MAX_LENGTH, Text, cut_line};
 use std::alloc::Global;
 use std::process::Abort;
 use std::test::Fail;
@@ -44,6 +44,34 @@ fn words(rt: HostRuntime) -> Result<(), Fail> {
         );
     }
     Ok(())
+}
+
+#[test]
+fn lines(rt: HostRuntime) {
+    // the bytes; the first line and what follows it, where there is a line feed
+    let rows = [
+        ("", None),
+        ("ab", None),
+        ("\n", Some(("", ""))),
+        ("ab\n", Some(("ab", ""))),
+        ("a\r\n\nb", Some(("a\r", "\nb"))),
+    ];
+    for (bytes, wanted) in rows {
+        match (cut_line(bytes.as_bytes()), wanted) {
+            (None, None) => {}
+            (Some((line, rest)), Some((wanted_line, wanted_rest))) => {
+                assert_eq!(rt; line, wanted_line.as_bytes(), "the first line of {bytes}");
+                assert_eq!(rt; rest, wanted_rest.as_bytes(), "behind it in {bytes}");
+            }
+            _ => panic!(rt; "another number of lines in {bytes}"),
+        }
+    }
+    let chars = ['é', '\n', 'x'];
+    let Some((line, rest)) = cut_line(chars.as_slice()) else {
+        panic!(rt; "no line feed");
+    };
+    assert!(rt; line == &chars[..1]);
+    assert!(rt; rest == &chars[2..]);
 }
 
 #[test]

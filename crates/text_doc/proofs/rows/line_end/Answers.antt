@@ -1,4 +1,4 @@
-use Rattle.std.proofs.Common.{◌≡◌, get_or, arith, refl, inl, inr}
+use Rattle.std.proofs.Common.{◌≡◌, get_or, arith, inl, inr}
 use Rattle.text_doc.proofs.RowWalks.{line_end_found, is_row_end-here, is_row_end-other}
 use Rattle.text_doc.proofs.rows.line_end.Goals as goal
 

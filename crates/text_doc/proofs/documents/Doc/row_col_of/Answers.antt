@@ -1,4 +1,4 @@
-use Rattle.std.proofs.Common.{◌≡◌, ◌+◌, ◌-◌, ◌≤◌, length, arith, ◌∙◌, ap}
+use Rattle.std.proofs.Common.{◌≡◌, ◌+◌, ◌-◌, arith, ◌∙◌, ap}
 use Rattle.text_doc.specs.Rows.{line_start, row_of}
 use Rattle.text_doc.proofs.RowLaws.{index_of-row_col}
 use Rattle.text_doc.proofs.documents.Doc.row_col_of.Goals as goal

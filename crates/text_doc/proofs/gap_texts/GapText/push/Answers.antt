@@ -1,4 +1,4 @@
-use Rattle.std.proofs.Common.{◌+◌, ◌-◌, ◌≤◌, ◌++◌, length, sym, ap, subst, ◌∙◌, arith}
+use Rattle.std.proofs.Common.{◌-◌, ◌≤◌, ◌++◌, length, sym, ap, subst, ◌∙◌, arith}
 use Rattle.text_doc.specs.Gap.{Gap}
 use Rattle.text_doc.proofs.GapLemmas.{pushed}
 use Rattle.text_doc.proofs.gap_texts.GapText.push.Goals as goal
