@@ -40,14 +40,15 @@ pub fn first_char(bytes: &[u8]) -> Option<(char, usize)>
     }
 }
 
-// Bytes whose front of this size is no character are all of the front of one, or there are none.
+/// Tells whether bytes whose front of this size is no character are all of the front of one, or there are none.
 fn is_front(bytes: &[u8], size: usize) -> bool
-    ensures { result ≡ (size == length bytes.now && nat_lt (length bytes.now) (lead_len (slice_index bytes.now 0))) }
+    ensures { result
+        ≡ (size == length bytes.now && nat_lt (length bytes.now) (lead_len (slice_index bytes.now 0))) }
 {
     size == bytes.len() && (bytes.is_empty() || bytes.len() < lead_length(bytes[0]))
 }
 
-// How many bytes a character that begins with this byte takes, or 0 where none does.
+/// Returns how many bytes a character that begins with this byte takes, or 0 where none does.
 fn lead_length(byte: u8) -> usize
     ensures { result ≡ lead_len byte }
 {
