@@ -31,9 +31,6 @@ length-laid_at row at cells fits =
       length-drop (at + length cells) row,
     )
 
-pub length-put_at : (row : List Cell) (at : ℕ) (lead : Cell) → at + length (spread lead) ≤ length row → length (put_at row at lead) ≡ length row
-length-put_at row at lead fits = length-laid_at row at (spread lead) fits
-
 -- ---- whole rows
 
 pub whole-append : (after : Bool) (front back : List Cell) → IsWholeAfter after front → IsWhole back → IsWholeAfter after (front ++ back)

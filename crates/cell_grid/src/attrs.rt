@@ -49,7 +49,7 @@ impl Attrs {
     ghost use Rattle.std.specs.Prelude.{◌≡◌};
     ghost use Rattle.cell_grid.specs.Attrs.{plain};
 
-    /// No colours and no other attribute.
+    /// Returns no colours and no other attribute.
     pub fn plain() -> Attrs
         ensures { result ≡ plain }
     {

@@ -19,14 +19,14 @@ impl Cell {
     ghost use Rattle.cell_grid.specs.declared.cell.Cell.TheVariants.{Tail};
     ghost use Rattle.cell_grid.specs.Cell.{joined, blank, narrow, is_wide, spread};
 
-    /// A space without attributes.
+    /// Returns a space without attributes.
     pub fn blank() -> Cell
         ensures { result ≡ blank }
     {
         Cell::narrow(' ', Attrs::plain())
     }
 
-    /// A character that takes one column.
+    /// Returns a character that takes one column.
     pub fn narrow(character: char, attrs: Attrs) -> Cell
         ensures { result ≡ narrow character attrs }
     {
@@ -37,7 +37,7 @@ impl Cell {
         }
     }
 
-    /// How many places the cell takes in a row, that of its Tail included.
+    /// Returns how many places the cell takes in a row, that of its Tail included.
     pub fn columns(&self) -> usize
         ensures { result ≡ length (spread self.now) }
     {
@@ -47,7 +47,7 @@ impl Cell {
         }
     }
 
-    /// The cell with a character joined to its text, where that has room. A Tail has no text.
+    /// Returns the cell with a character joined to its text, where that has room. A Tail has no text.
     pub fn joined(&self, next: char) -> Cell
         ensures { result ≡ joined self.now next }
     {
@@ -65,7 +65,7 @@ impl Cell {
         }
     }
 
-    /// Whether it is the second column of a wide character.
+    /// Tells whether it is the second column of a wide character.
     pub fn is_tail(&self) -> bool
         ensures { IsTrue result ↔ (self.now ≡ Tail) }
     {
@@ -75,7 +75,7 @@ impl Cell {
         }
     }
 
-    /// Whether it is a Lead of two columns.
+    /// Tells whether it is a Lead of two columns.
     pub fn is_wide(&self) -> bool
         ensures { result ≡ is_wide self.now }
     {

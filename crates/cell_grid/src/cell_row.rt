@@ -37,7 +37,7 @@ impl CellRow {
     ghost use Rattle.cell_grid.specs.Row.{IsWhole, put_at};
     ghost use Rattle.cell_grid.specs.TextCells.{joined_last};
 
-    /// A row of no cells.
+    /// Returns a row of no cells.
     pub fn new(alloc: Global) -> CellRow
         ensures { result ≡ [] }
     {
@@ -54,21 +54,21 @@ impl CellRow {
         Ok(CellRow { cells })
     }
 
-    /// How many cells the row has, Tails included.
+    /// Returns how many cells the row has, Tails included.
     pub fn len(&self) -> usize
         ensures { result ≡ length self.now }
     {
         self.cells.len()
     }
 
-    /// Whether the row has no cells.
+    /// Tells whether the row has no cells.
     pub fn is_empty(&self) -> bool
         ensures { IsTrue result ↔ (self.now ≡ []) }
     {
         self.cells.is_empty()
     }
 
-    /// The cell at a place.
+    /// Returns the cell at a place.
     pub fn cell(&self, at: usize) -> &Cell
         requires { at < length self.now }
         ensures { slice_get self.now at ≡ Some result.now }
@@ -76,7 +76,7 @@ impl CellRow {
         &self.cells[at]
     }
 
-    /// All cells from the first on.
+    /// Returns all cells from the first on.
     pub fn as_slice(&self) -> &[Cell]
         ensures value { result.now ≡ self.now }
         ensures whole { IsWhole result.now }
@@ -110,7 +110,7 @@ impl CellRow {
         join_last_of(&mut self.cells, next);
     }
 
-    /// A row of equal cells.
+    /// Returns a row of equal cells.
     pub fn copy(&self) -> Result<CellRow, NoMemory>
         ensures { IfOk result (λ copy. copy ≡ self.now) }
     {

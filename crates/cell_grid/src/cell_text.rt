@@ -33,7 +33,7 @@ impl CellText {
     /// The most characters that a cell holds.
     pub const MAX_CHARS: usize = 8;
 
-    /// The text of this one character.
+    /// Returns the text of this one character.
     pub fn new(first: char) -> CellText
         ensures { result ≡ first ∷ [] }
     {
@@ -56,7 +56,7 @@ impl CellText {
         true
     }
 
-    /// The characters, from the first on.
+    /// Returns the characters, from the first on.
     pub fn as_slice(&self) -> &[char]
         ensures value { result.now ≡ self.now }
         ensures some { 1 ≤ length result.now }

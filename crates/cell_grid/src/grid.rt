@@ -33,7 +33,7 @@ impl Grid {
     ghost use Rattle.cell_grid.specs.Row.{IsWhole, laid_at};
     ghost use Rattle.cell_grid.specs.Grid.{AllRows, blank_rows, blitted, columns, put_in, row_at};
 
-    /// A grid of blanks.
+    /// Returns a grid of blanks.
     pub fn blank(alloc: Global, rows: u32, cols: u32) -> Result<Grid, NoMemory>
         requires some_rows { 1 ≤ rows }
         requires few_rows { rows ≤ 1000 }
@@ -45,7 +45,7 @@ impl Grid {
         Ok(Grid { rows, cols, cells })
     }
 
-    /// How many rows the grid has.
+    /// Returns how many rows the grid has.
     pub fn rows(&self) -> u32
         ensures value { result ≡ length self.now }
         ensures some { 1 ≤ result }
@@ -54,7 +54,7 @@ impl Grid {
         self.rows
     }
 
-    /// How many columns each row has.
+    /// Returns how many columns each row has.
     pub fn cols(&self) -> u32
         ensures value { result ≡ columns self.now }
         ensures every { AllRows result self.now }
@@ -64,7 +64,7 @@ impl Grid {
         self.cols
     }
 
-    /// The cells of a row, from the left.
+    /// Returns the cells of a row, from the left.
     pub fn row(&self, row: u32) -> &[Cell]
         requires { row < length self.now }
         ensures value { result.now ≡ row_at self.now row }
@@ -77,7 +77,7 @@ impl Grid {
         line
     }
 
-    /// The cell at a row and a column.
+    /// Returns the cell at a row and a column.
     pub fn cell(&self, row: u32, col: u32) -> &Cell
         requires row_within { row < length self.now }
         requires col_within { col < columns self.now }
@@ -121,7 +121,8 @@ impl Grid {
         requires whole { IsWhole cells.now }
         requires row_within { row < length self.old }
         requires fits { col + length cells.now ≤ columns self.old }
-        ensures laid { self.new ≡ slice_set self.old row (laid_at (row_at self.old row) col cells.now) }
+        ensures laid { self.new
+            ≡ slice_set self.old row (laid_at (row_at self.old row) col cells.now) }
         ensures cols { columns self.new ≡ columns self.old }
     {
         let start = start_of(row, self.cols);
@@ -135,7 +136,7 @@ impl Grid {
     }
 }
 
-/// Where a row of this many columns starts in the block.
+/// Tells where a row of this many columns starts in the block.
 fn start_of(row: u32, cols: u32) -> usize
     requires few_rows { row ≤ 1000 }
     requires few_cols { cols ≤ 1000 }
@@ -150,7 +151,8 @@ fn lay_in_block(block: &mut Vec<Cell>, start: usize, cols: usize, at: usize, cel
     requires fits { at + length cells.now ≤ cols }
     ensures { block.new.items
         ≡ take start block.old.items
-        ++ (laid_at (take cols (drop start block.old.items)) at cells.now ++ drop cols (drop start block.old.items)) }
+        ++ (laid_at (take cols (drop start block.old.items)) at cells.now
+        ++ drop cols (drop start block.old.items)) }
 {
     let all = block.as_mut_slice();
     let (_above, rest) = all.split_at_mut(start);

@@ -30,7 +30,7 @@ impl Size {
     /// The largest number of columns.
     pub const MAX_COLS: u32 = 1000;
 
-    /// The size of this many rows and columns, where a screen can have it.
+    /// Returns the size of this many rows and columns, where a screen can have it.
     pub fn new(rows: u32, cols: u32) -> Option<Size>
         ensures within { IsSome result ↔ IsScreen rows cols }
         ensures value { IfSome result (λ size. size ≡ record { rows = rows; cols = cols }) }
@@ -41,7 +41,7 @@ impl Size {
         Some(Size { rows, cols })
     }
 
-    /// How many rows the screen has.
+    /// Returns how many rows the screen has.
     pub fn rows(&self) -> u32
         ensures value { result ≡ self.now.rows }
         ensures some { 1 ≤ result }
@@ -50,7 +50,7 @@ impl Size {
         self.rows
     }
 
-    /// How many columns the screen has.
+    /// Returns how many columns the screen has.
     pub fn cols(&self) -> u32
         ensures value { result ≡ self.now.cols }
         ensures some { 1 ≤ result }

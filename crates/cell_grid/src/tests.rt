@@ -35,7 +35,7 @@ fn fragment(alloc: Global, words: &str) -> Result<Fragment, NoMemory> {
     })
 }
 
-// A row of Leads, each told by its characters, its width and whether it is bold.
+/// Returns a row of Leads, each told by its characters, its width and whether it is bold.
 fn row_of(alloc: Global, leads: &[(&str, u8, bool)]) -> Result<CellRow, NoMemory> {
     let mut row = CellRow::new(alloc);
     for (words, width, is_bold) in leads {

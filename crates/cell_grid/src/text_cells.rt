@@ -8,8 +8,8 @@ use crate::{Attrs, Cell, CellRow, CellText, Fragment, NoMemory};
 use std::alloc::Global;
 use unicode_width::UnicodeWidthChar;
 
-/// The cells of one line that is drawn from these fragments, one behind the other. A control character
-/// is spelled out, a no-break space is a space, and a character of no width joins the cell before it.
+/// Returns the cells of one line that is drawn from these fragments, one behind the other. A control
+/// character is spelled out, a no-break space is a space, and a character of no width joins the cell before it.
 pub fn cells_of(alloc: Global, fragments: &[Fragment]) -> Result<CellRow, NoMemory>
     ensures { IfOk result (λ row. row ≡ cells_of fragments.now) }
 {
@@ -40,7 +40,7 @@ fn push_next(row: &mut CellRow, c: char, attrs: Attrs, control: Attrs) -> Result
     Ok(())
 }
 
-/// Whether a character is one of Unicode's control characters, which alone have no width.
+/// Tells whether a character is one of Unicode's control characters, which alone have no width.
 fn is_control(c: char) -> bool
     ensures value { result ≡ is_control c }
     ensures no_width { result ≡ is_none (char_width false c) }
