@@ -35,11 +35,26 @@ impl Model for Dimension {
 
     ghost Value = { Numbers };
 
-    ghost view = { λ d. record { minimum = d.min; maximum = d.max; weight = d.weight; preferred = d.preferred } };
+    ghost view = { λ d. record {
+      minimum = d.min;
+      maximum = d.max;
+      weight = d.weight;
+      preferred = d.preferred;
+    } };
 
-    ghost invariant = { λ d. IsDimension (record { minimum = d.min; maximum = d.max; weight = d.weight; preferred = d.preferred }) };
+    ghost invariant = { λ d. IsDimension (record {
+      minimum = d.min;
+      maximum = d.max;
+      weight = d.weight;
+      preferred = d.preferred;
+    }) };
 
-    ghost inverse = { λ n. record { min = n.minimum; max = n.maximum; weight = n.weight; preferred = n.preferred } };
+    ghost inverse = { λ n. record {
+      min = n.minimum;
+      max = n.maximum;
+      weight = n.weight;
+      preferred = n.preferred;
+    } };
 }
 
 impl Dimension {

@@ -101,7 +101,8 @@ pub fn divide(
 ) -> Result<Option<Sizes>, NoMemory>
     requires room_in { room ≤ 1000 }
     requires parts_in { length parts.now ≤ 1000 }
-    ensures too_little { IfOk result (λ answer. IsNone answer ↔ (room < sum (minima_of parts.now))) }
+    ensures too_little { IfOk result (λ answer.
+        IsNone answer ↔ (room < sum (minima_of parts.now))) }
     ensures division { IfOk result (λ answer. IfSome answer (Division parts.now room done)) }
 
     // What this means for the sizes, whichever turns gave them.
