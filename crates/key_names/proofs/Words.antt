@@ -125,9 +125,6 @@ IsAscii-word key w e = IsAscii-from_all w (of_word (λ _ v. list_all (λ b. nat_
 pub bytes-from_chars : (bs w : List ℕ) → IsUtf8 bs → chars bs ≡ w → IsAscii w → bs ≡ w
 bytes-from_chars bs w text e ascii = sym (encodes-chars bs text) ∙ ap (λ t. encodes t) e ∙ encodes-IsAscii w ascii
 
-pub chars-from_bytes : (bs w : List ℕ) → bs ≡ w → IsAscii w → chars bs ≡ w
-chars-from_bytes bs w e ascii = ap (λ t. chars t) e ∙ chars-IsAscii w ascii
-
 -- a control key's name is three ASCII characters
 pub control_name-is : (c : ℕ) (w : List ℕ) → control_name c ≡ Some w → (is_control_letter c ≡ true) × (w ≡ 99 ∷ 45 ∷ c ∷ [])
 control_name-is c w e = ⊎_elim
@@ -204,17 +201,6 @@ not_lone bs rest after c d text first second x one =
     let b = chars_past_char rest after d (IsUtf8-past_char bs rest c text first) second in
     cc
 
--- a character that is no name
-pub char_unnamed : (c : ℕ) → (is_plain c && not (c == 32)) ≡ false → (key : Key) → name_of key ≡ Some (c ∷ []) → ⊥
-char_unnamed c other key e =
-    let same : Char c ≡ key = let k = key_of-name key (c ∷ []) e in cc in
-    let named : char_name c ≡ Some (c ∷ []) = subst (λ k. name_of k ≡ Some (c ∷ [])) (sym same) e in
-    ⊎_elim
-    (λ (word : word_of (Char c) ≡ Some (c ∷ [])). let long = of_word (λ _ v. nat_lt 1 (length v) ≡ true)
-    (refl, (refl, (refl, (refl, (refl, (refl, (refl, (refl, (refl, (refl, (refl, (refl, (refl, (refl, (refl, (refl, (refl, (refl, (refl, (refl, (refl, (refl, (refl, (refl, (refl, (refl, (refl, (refl, (refl, (refl, (refl, (refl, (refl, (refl, (refl, (refl, tt)))))))))))))))))))))))))))))))))))) (Char c) (c ∷ []) word in cc)
-    (λ (plain : (c ∷ [] ≡ c ∷ []) × (is_plain c ≡ true) × (c == 32 ≡ false)). grind (arith, nat_tests))
-    (char_name-is c (c ∷ []) named)
-
 -- no key has the name: not a character, not a control key and no word
 pub unnamed : (bs : List ℕ) → IsUtf8 bs → ((c : ℕ) → chars bs ≡ c ∷ [] → ⊥) → ((c : ℕ) → control_name c ≡ Some bs → ⊥) → ((key : Key) → word_of key ≡ Some bs → ⊥)
     → (key : Key) → name_of key ≡ Some (chars bs) → ⊥
@@ -244,10 +230,6 @@ name_from_word bs (Char c) e =
     let named = name_of-char_word c bs e in named ∙ ap (λ t. Some t) (sym (chars-IsAscii bs (IsAscii-word (Char c) bs e)))
 name_from_word bs (Control c) e = absurd cc
 name_from_word bs key e = e ∙ ap (λ t. Some t) (sym (chars-IsAscii bs (IsAscii-word key bs e)))
-
-pub IfSome-weaker : {A : Type 0} (o : Option A) {P Q : A → Type 0} → ((x : A) → P x → Q x) → IfSome o P → IfSome o Q
-IfSome-weaker None each held = tt
-IfSome-weaker (Some x) each held = each x held
 
 pub IfNone-weaker : {A : Type 0} (o : Option A) {P Q : Type 0} → (P → Q) → IfNone o P → IfNone o Q
 IfNone-weaker None change held = change held

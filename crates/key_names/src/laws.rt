@@ -21,7 +21,7 @@ pub fn reads_what_is_written(alloc: Global, key: Key) -> Result<Key, NoMemory>
     }
 }
 
-// These characters as a string.
+/// Returns these characters as a string.
 fn spelled(alloc: Global, text: &[char]) -> Result<String, NoMemory>
     ensures { IfOk result (λ name. encode_utf8_all text.now ≡ string_bytes name) }
 {

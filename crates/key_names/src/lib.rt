@@ -9,6 +9,6 @@ mod naming;
 mod tests;
 
 pub use key::{Key, KeyPress};
-pub use key_text::KeyText;
+pub use key_text::{KeyText, text_of_codes};
 pub use naming::{UnknownKey, read_name, write_name};
 pub use sequences::NoMemory;

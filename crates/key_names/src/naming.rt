@@ -6,7 +6,7 @@ ghost use Rattle.key_names.specs.declared.key.Key.{Key};
 ghost use Rattle.key_names.specs.KeyName.{name_of, word_of, control_name, function_name, is_control_letter, is_plain};
 
 use crate::key::Key;
-use crate::key_text::KeyText;
+use crate::key_text::{KeyText, text_of_codes};
 use sequences::NoMemory;
 use std::alloc::Global;
 use thiserror::Error;
@@ -77,32 +77,22 @@ pub fn write_name(alloc: Global, key: Key) -> Result<KeyText, NoMemory>
         Key::Control(letter) => control_text(alloc, letter),
         Key::Char(c) if c != ' ' => KeyText::from_slice(alloc, &[c]),
         _ => match word_of(key) {
-            Some(word) => ascii_text(alloc, word),
+            Some(word) => text_of_codes(alloc, word),
             None => unreachable!(),
         },
     }
 }
 
-// The text whose characters are the codes of these bytes.
-fn ascii_text(alloc: Global, bytes: &[u8]) -> Result<KeyText, NoMemory>
-    ensures { IfOk result (λ text. text ≡ bytes.now) }
-{
-    let mut text = KeyText::new(alloc);
-    for byte in bytes {
-        text.push(*byte as char)?;
-    }
-    Ok(text)
-}
-
+/// Returns the name of the control key that is typed with this.
 fn control_text(alloc: Global, letter: char) -> Result<KeyText, NoMemory>
     ensures { IfOk result (λ text. text ≡ 99 ∷ 45 ∷ letter ∷ []) }
 {
-    let mut text = ascii_text(alloc, b"c-")?;
+    let mut text = text_of_codes(alloc, b"c-")?;
     text.push(letter)?;
     Ok(text)
 }
 
-// The key of a name, if there is one.
+/// Returns the key of a name, if there is one.
 fn find_key(name: &str) -> Option<Key>
     ensures found { IfSome result (λ key. name_of key ≡ Some (chars name.now)) }
     ensures none { IfNone result ((key : Key) → name_of key ≢ Some (chars name.now)) }
@@ -117,7 +107,7 @@ fn find_key(name: &str) -> Option<Key>
     }
 }
 
-// What a control key is typed with, by its name.
+/// Returns what a control key is typed with, by its name.
 fn control_letter(name: &[u8]) -> Option<u8>
     ensures found { IfSome result (λ letter. control_name letter ≡ Some name.now) }
     ensures none { IfNone result ((letter : ℕ) → control_name letter ≢ Some name.now) }
@@ -132,7 +122,7 @@ fn control_letter(name: &[u8]) -> Option<u8>
     }
 }
 
-// The one character of a text.
+/// Returns the one character of a text.
 fn lone_char(text: &str) -> Option<char>
     ensures found { IfSome result (λ c. chars text.now ≡ c ∷ []) }
     ensures none { IfNone result ((c : ℕ) → chars text.now ≢ c ∷ []) }
@@ -145,20 +135,21 @@ fn lone_char(text: &str) -> Option<char>
     }
 }
 
-// The character names itself.
+/// Tells whether the character names itself.
 fn is_name(c: char) -> bool
     ensures { result ≡ (is_plain c && not (c == 32)) }
 {
     ' ' < c && c != '\u{7F}'
 }
 
+/// Tells whether the character of this byte may be typed with the control key.
 fn is_control_letter(byte: u8) -> bool
     ensures { result ≡ is_control_letter byte }
 {
     matches!(byte, b'@' | b'a'..=b'z' | b'\\'..=b'_')
 }
 
-// The key whose word is the name.
+/// Finds the key whose word is the name.
 fn find_word(name: &[u8]) -> Option<Key>
     ensures found { IfSome result (λ key. word_of key ≡ Some name.now) }
     ensures none { IfNone result ((key : Key) → word_of key ≢ Some name.now) }
@@ -171,7 +162,7 @@ fn find_word(name: &[u8]) -> Option<Key>
     None
 }
 
-// The key is named by this word.
+/// Tells whether the key is named by this word.
 fn is_word(key: Key, name: &[u8]) -> bool
     ensures { IsTrue result ↔ (word_of key ≡ Some name.now) }
 {
@@ -181,7 +172,7 @@ fn is_word(key: Key, name: &[u8]) -> bool
     }
 }
 
-// The word that names a key.
+/// Returns the word that names a key.
 fn word_of(key: Key) -> Option<&'static [u8]>
     ensures { option_copied result ≡ word_of key }
 {
@@ -215,7 +206,7 @@ fn word_of(key: Key) -> Option<&'static [u8]>
     }
 }
 
-// The word that names a function key.
+/// Returns the word that names a function key.
 fn function_word(number: u8) -> Option<&'static [u8]>
     ensures { option_copied result ≡ function_name number }
 {

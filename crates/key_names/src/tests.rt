@@ -1,6 +1,6 @@
-//! Names as a user writes them, and copies of a press.
+//! Names as a user writes them, the sentence of their fault, and texts of a press.
 use crate::laws::reads_what_is_written;
-use crate::{Key, KeyPress, KeyText, UnknownKey, read_name, write_name};
+use crate::{Key, KeyPress, UnknownKey, read_name, text_of_codes, write_name};
 use std::test::Fail;
 
 const NAMED: [(&str, Key); 14] = [
@@ -50,8 +50,15 @@ fn writes_names(rt: HostRuntime) -> Result<(), Fail> {
 }
 
 #[test]
+fn an_unknown_name_is_told(rt: HostRuntime) -> Result<(), Fail> {
+    let told = format!(in rt.alloc(); "{UnknownKey}")?;
+    assert_eq!(rt; told.as_str(), "no key has this name");
+    Ok(())
+}
+
+#[test]
 fn copies_a_press(rt: HostRuntime) -> Result<(), Fail> {
-    let text = KeyText::from_slice(rt.alloc(), &['\u{1B}', '['])?;
+    let text = text_of_codes(rt.alloc(), b"\x1B[")?;
     let press = KeyPress {
         key: Key::Ignored,
         text,

@@ -1,6 +1,7 @@
 use Rattle.std.proofs.Common.{sym, ap, ◌∙◌}
 use Rattle.std.specs.Prelude.{Some}
-use Rattle.key_names.proofs.Words.{IfSome-weaker, IfNone-weaker, unnamed, name_from_control, name_from_word}
+use Rattle.std.proofs.lemmas.Option.{IfSome_then}
+use Rattle.key_names.proofs.Words.{IfNone-weaker, unnamed, name_from_control, name_from_word}
 use Rattle.key_names.proofs.naming.find_key.Goals as goal
 
 pub returns-in-Some-control_letter-clause-found : goal.returns-in-Some-control_letter-clause-found
@@ -10,7 +11,7 @@ returns-in-Some-control_letter-clause-found c =
 pub returns-in-None-clause-found : goal.returns-in-None-clause-found
 returns-in-None-clause-found c =
     let bytes = c.as_bytes-bytes.ensures.value in
-    IfSome-weaker c.find_word.result (λ key named. name_from_word c.args.name.now key (named ∙ ap (λ t. Some t) bytes)) c.find_word.ensures.found
+    IfSome_then c.find_word.result c.find_word.ensures.found (λ key named. name_from_word c.args.name.now key (named ∙ ap (λ t. Some t) bytes))
 
 pub returns-in-None-clause-none : goal.returns-in-None-clause-none
 returns-in-None-clause-none c =
