@@ -108,25 +108,8 @@ flushed-nothing rows x =
 
 -- ---- one step at a time
 
--- a character that leaves the paste open
-pub step-open : (rows : List SeqRow) (flush : Bool) (front : List KeyPress) (p q : Paste) (c : ℕ) (x : List ℕ) → step p c ≡ Some q
-    → with_presses front (fed_by rows flush (Some q) x) ≡ with_presses front (fed_by rows flush (Some p) (c ∷ x))
-step-open rows flush front p q c x e = sym (ap (λ (o : Option Paste). with_presses front (fed_went rows flush (went_by o p.text.kept x (λ r. went x r)))) e)
-
--- a character that ends it
-pub step-over : (rows : List SeqRow) (flush : Bool) (front : List KeyPress) (p : Paste) (text : List ℕ) (c : ℕ) (x : List ℕ) → step p c ≡ None → text ≡ p.text.kept
-    → with_presses (front ++ paste_press text ∷ []) (fed_by rows flush None x) ≡ with_presses front (fed_by rows flush (Some p) (c ∷ x))
-step-over rows flush front p text c x e said =
-    ap (λ (t : List KeyPress). record { presses = t; held = (fed_by rows flush None x).held }) (append_assoc front (paste_press text ∷ []) (fed_by rows flush None x).presses)
-    ∙ ap (λ (t : List ℕ). with_presses front (fed_went rows flush (over t x))) said
-    ∙ sym (ap (λ (o : Option Paste). with_presses front (fed_went rows flush (went_by o p.text.kept x (λ r. went x r)))) e)
-
 some_none : (t : Key × ℕ) → Some t ≡ None → ⊥
 some_none t e = cc
-
-pub none-is : {A : Type 0} (o : Option A) → true ≡ is_none o → o ≡ None
-none-is None e = refl
-none-is (Some a) e = absurd (cc)
 
 -- an opening mark
 pub opens-front : (rows : List SeqRow) (x : List ℕ) → is_prefix opening x ≡ true → fed_by rows false (Some begun) (drop 6 x) ≡ fed_by rows false None x
@@ -147,26 +130,6 @@ takes-front rows flush (c ∷ cs) key n other e some least =
     let first : first_key rows flush x ≡ Some (press, n - 1) = ap (λ (b : Bool). first_by b rows flush x) other ∙ ap (λ (o : Option (Key × ℕ)). press_by x o) e in
     ap (λ (t : Cut KeyPress). fed_cut t) (cut-step (first_key rows flush) c cs press (n - 1) first)
     ∙ ap (λ (t : List ℕ). press_first press (fed_cut (keys_of rows flush t))) (drop_behind n c cs least)
-
--- a text waits in no flush
-not_marked : (rows : List SeqRow) (flush : Bool) (x : List ℕ) → opens flush x ≡ false → decision rows flush x ≡ None → is_prefix opening x ≡ false
-not_marked rows false x other e = other
-not_marked rows true x other e = absurd (cc)
-
--- a text that waits
-pub waits-front : (rows : List SeqRow) (flush : Bool) (x : List ℕ) → opens flush x ≡ false → decision rows flush x ≡ None → 0 < length x
-    → fed_by rows flush None x ≡ record { presses = []; held = record { text = x; paste = None } }
-waits-front rows flush [] other e some = refl
-waits-front rows flush (c ∷ cs) other e some =
-    let mark : is_prefix opening (c ∷ cs) ≡ false = not_marked rows flush (c ∷ cs) other e in
-    let x = c ∷ cs in
-    let first : first_key rows flush x ≡ None = ap (λ (b : Bool). first_by b rows flush x) other ∙ ap (λ (o : Option (Key × ℕ)). press_by x o) e in
-    ap (λ (t : Cut KeyPress). fed_cut t) (cut-waits (first_key rows flush) c cs first) ∙ ap (λ (b : Bool). record { presses = []; held = held_by b x }) mark
-
--- the end of a text
-pub fed_by-nil : (rows : List SeqRow) (flush : Bool) (paste : Option Paste) → fed_by rows flush paste [] ≡ record { presses = []; held = record { text = []; paste = paste } }
-fed_by-nil rows flush None = refl
-fed_by-nil rows flush (Some p) = refl
 
 -- ---- steps of a cutter
 
@@ -218,27 +181,3 @@ Takes-key rows flush before presses x text key n none other e some said pushed =
           ∙ ap (λ (f : Fed). with_presses front f) (sym (takes-front rows flush x key n other (sym e) some bounds.0))
           ∙ ap (λ (o : Option Paste). with_presses front (fed_by rows flush o x)) (sym none);
     }
-
--- a step that waits
-pub IsWaiting-from : (rows : List SeqRow) (flush : Bool) (before : Cutter) (x : List ℕ) → opens flush x ≡ false → None ≡ decision rows flush x → 0 < length x
-    → IsWaiting rows flush before before x
-IsWaiting-from rows flush before x other e some = record { unchanged = refl; waits = waits-front rows flush x other (sym e) some }
-
--- where a text ends, all that was given and is held
-pub cut_at-end : (rows : List SeqRow) (flush : Bool) (cutter : Cutter) (x : List ℕ) (n : ℕ) → length x ≤ n → cut_at cutter x n ≡ given_with rows flush cutter (drop n x)
-cut_at-end rows flush cutter x n le =
-    let none : drop n x ≡ [] = drop_all n x le in
-    ap (λ (t : List ℕ). record { presses = cutter.presses; held = record { text = t; paste = cutter.paste } }) none
-    ∙ ap (λ (t : List KeyPress). record { presses = t; held = record { text = []; paste = cutter.paste } }) (sym (append-nil cutter.presses))
-    ∙ ap (λ (f : Fed). with_presses cutter.presses f) (sym (fed_by-nil rows flush cutter.paste))
-    ∙ ap (λ (t : List ℕ). given_with rows flush cutter t) (sym none)
-
--- and where it waits
-pub cut_at-waiting : (rows : List SeqRow) (flush : Bool) (before after : Cutter) (x : List ℕ) (n : ℕ) → before.paste ≡ None → IsWaiting rows flush before after (drop n x)
-    → cut_at after x n ≡ given_with rows flush before (drop n x)
-cut_at-waiting rows flush before after x n none h =
-    ap (λ (t : Cutter). cut_at t x n) h.unchanged
-    ∙ ap (λ (o : Option Paste). record { presses = before.presses; held = record { text = drop n x; paste = o } }) none
-    ∙ ap (λ (t : List KeyPress). record { presses = t; held = record { text = drop n x; paste = None } }) (sym (append-nil before.presses))
-    ∙ ap (λ (f : Fed). with_presses before.presses f) (sym h.waits)
-    ∙ ap (λ (o : Option Paste). with_presses before.presses (fed_by rows flush o (drop n x))) (sym none)

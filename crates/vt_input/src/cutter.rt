@@ -34,7 +34,8 @@ impl Cutter {
     ) -> Result<usize, AllocError>
         requires { begin_with_control rows.now ≡ true }
         ensures within { IfOk result (λ n. n ≤ length text.now) }
-        ensures cut { IfOk result (λ n. cut_at self.new text.now n ≡ given_with rows.now flush self.old text.now) }
+        ensures cut { IfOk result (λ n.
+            cut_at self.new text.now n ≡ given_with rows.now flush self.old text.now) }
     {
         let mut at = 0;
         while at < text.len() {
@@ -52,10 +53,11 @@ impl Cutter {
         Ok(at)
     }
 
-    // Reads a character of a paste.
+    /// Reads a character of a paste.
     fn step_paste(&mut self, mut paste: OpenPaste, c: char) -> Result<(), AllocError>
         ensures { (rows : List SeqRow) (flush : Bool) (x : List ℕ) → OnOk result
-            (given_with rows flush self.new x ≡ with_presses self.old.presses (fed_by rows flush (Some paste) (c ∷ x))) }
+            (given_with rows flush self.new x
+            ≡ with_presses self.old.presses (fed_by rows flush (Some paste) (c ∷ x))) }
     {
         if paste.step(c)? {
             self.presses.push(KeyPress {
@@ -69,7 +71,7 @@ impl Cutter {
         Ok(())
     }
 
-    // Takes what stands at the front of a text outside a paste.
+    /// Takes what stands at the front of a text outside a paste.
     fn step_text(
         &mut self,
         alloc: Global,
@@ -80,7 +82,8 @@ impl Cutter {
         requires some { 0 < length text.now }
         requires outside { self.old.paste ≡ None }
         requires control { begin_with_control rows.now ≡ true }
-        ensures { IfOk result (λ taken. StepsFront rows.now flush self.old self.new text.now taken) }
+        ensures { IfOk result (λ taken.
+            StepsFront rows.now flush self.old self.new text.now taken) }
     {
         if is_opening(flush, text) {
             self.paste = Some(OpenPaste::new(alloc));
@@ -97,7 +100,7 @@ impl Cutter {
     }
 }
 
-// The text begins a paste, as none does in a flush.
+/// Tells whether the text begins a paste, as none does in a flush.
 fn is_opening(flush: bool, text: &[char]) -> bool
     ensures { result ≡ opens flush text.now }
 {

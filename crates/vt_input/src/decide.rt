@@ -25,6 +25,7 @@ pub fn decide(rows: &[SeqRow], flush: bool, text: &[char]) -> Option<(Key, usize
     Some(chosen(near, sequence, text))
 }
 
+/// Tells whether a control sequence lacks its final character.
 fn is_open(sequence: ControlSequence) -> bool
     ensures { result ≡ is_open sequence }
 {
@@ -35,7 +36,7 @@ fn is_open(sequence: ControlSequence) -> bool
     }
 }
 
-// The text is a proper front of a row.
+/// Tells whether the text is a proper front of a row.
 fn is_begun(rows: &[SeqRow], text: &[char]) -> bool
     ensures { result ≡ is_begun rows.now text.now }
 {
@@ -47,7 +48,7 @@ fn is_begun(rows: &[SeqRow], text: &[char]) -> bool
     false
 }
 
-// That many characters of the text are a row.
+/// Tells whether that many characters of the text are a row.
 fn is_known(rows: &[SeqRow], size: usize, text: &[char]) -> bool
     ensures { result ≡ is_known rows.now size text.now }
 {
@@ -59,10 +60,11 @@ fn is_known(rows: &[SeqRow], size: usize, text: &[char]) -> bool
     false
 }
 
-// The key of a text that waits no longer: an unknown control sequence is one ignored key.
+/// Returns the key of a text that waits no longer: an unknown control sequence is one ignored key.
 fn chosen(rows: &[SeqRow], sequence: ControlSequence, text: &[char]) -> (Key, usize)
     requires { 0 < length text.now }
-    ensures { result ≡ chosen_by rows.now sequence text.now (longest_from rows.now (Char (slice_index text.now 0), 1) text.now) }
+    ensures { result ≡ chosen_by rows.now sequence text.now
+        (longest_from rows.now (Char (slice_index text.now 0), 1) text.now) }
 {
     match sequence {
         ControlSequence::Unended => longest(rows, text),
@@ -75,7 +77,7 @@ fn chosen(rows: &[SeqRow], sequence: ControlSequence, text: &[char]) -> (Key, us
     }
 }
 
-// The longest row that is a front of the text, or its first character.
+/// Returns the longest row that is a front of the text, or its first character.
 fn longest(rows: &[SeqRow], text: &[char]) -> (Key, usize)
     requires { 0 < length text.now }
     ensures { result ≡ longest_from rows.now (Char (slice_index text.now 0), 1) text.now }
@@ -87,6 +89,7 @@ fn longest(rows: &[SeqRow], text: &[char]) -> (Key, usize)
     best
 }
 
+/// Returns the row with its size where it is a front of the text and no shorter than the best so far, else that one.
 fn longer(row: &SeqRow, best: (Key, usize), text: &[char]) -> (Key, usize)
     ensures { result ≡ longer row.now best text.now }
 {

@@ -32,7 +32,7 @@ pub fn narrowed<'a>(rows: &'a [SeqRow], text: &[char]) -> &'a [SeqRow]
     near
 }
 
-// The text begins with a character that is no control character.
+/// Tells whether the text begins with a character that is no control character.
 fn begins_plain(text: &[char]) -> bool
     ensures { result ≡ begins_plain text.now }
 {
@@ -42,7 +42,7 @@ fn begins_plain(text: &[char]) -> bool
     }
 }
 
-// The rows behind those at the front that differ from the text at a place.
+/// Returns the rows behind those at the front that differ from the text at a place.
 fn without_first<'a>(rows: &'a [SeqRow], text: &[char], at: usize) -> &'a [SeqRow]
     requires { at < length text.now }
     ensures { IsSameSearch rows.now result.now text.now }
@@ -56,7 +56,7 @@ fn without_first<'a>(rows: &'a [SeqRow], text: &[char], at: usize) -> &'a [SeqRo
     near
 }
 
-// The rows before those at the end that differ from the text at a place.
+/// Returns the rows before those at the end that differ from the text at a place.
 fn without_last<'a>(rows: &'a [SeqRow], text: &[char], at: usize) -> &'a [SeqRow]
     requires { at < length text.now }
     ensures { IsSameSearch rows.now result.now text.now }
@@ -70,7 +70,7 @@ fn without_last<'a>(rows: &'a [SeqRow], text: &[char], at: usize) -> &'a [SeqRow
     near
 }
 
-// The row and the text differ at a place that both have.
+/// Tells whether the row and the text differ at a place that both have.
 fn is_unlike(row: &SeqRow, text: &[char], at: usize) -> bool
     requires { at < length text.now }
     ensures { OnTrue result (IsUnlike row.now text.now) }
@@ -81,6 +81,7 @@ fn is_unlike(row: &SeqRow, text: &[char], at: usize) -> bool
     }
 }
 
+/// Returns the character at a place, if there is one.
 fn char_at(text: &KeyText, at: usize) -> Option<char>
     ensures { result ≡ slice_get text.now at }
 {

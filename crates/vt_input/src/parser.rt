@@ -26,7 +26,11 @@ impl<const N: usize> Model for Parser<N> {
 
     ghost Value = { Parsing };
 
-    ghost view = { λ p. record { rows = p.table; bytes = p.bytes.items; held = record { text = p.text.items; paste = p.paste } } };
+    ghost view = { λ p. record {
+      rows = p.table;
+      bytes = p.bytes.items;
+      held = record { text = p.text.items; paste = p.paste };
+    } };
 }
 
 impl<const N: usize> Parser<N> {
@@ -60,8 +64,8 @@ impl<const N: usize> Parser<N> {
         Ok(keys)
     }
 
-    /// Decides all that waits outside a paste, and returns its key presses, as when no more bytes came for a while; in a paste it does nothing. An
-    /// unfinished character counts as U+FFFD.
+    /// Decides all that waits outside a paste, and returns its key presses, as when no more bytes came for a while; in
+    /// a paste it does nothing. An unfinished character counts as U+FFFD.
     pub fn flush(&mut self) -> Result<Keys, AllocError>
         ensures keys { IfOk result (λ keys. keys ≡ (flushed self.old).presses) }
         ensures rest { OnOk result (self.new ≡ parsing_flushed self.old) }
@@ -88,7 +92,7 @@ impl<const N: usize> Parser<N> {
         self.paste.is_none() && !(self.text.is_empty() && self.bytes.is_empty())
     }
 
-    // What `feed` gives and leaves.
+    /// Gives and leaves what `feed` does.
     fn read(&mut self, piece: &[u8]) -> Result<Keys, AllocError>
         ensures keys { IfOk result (λ keys. keys ≡ (fed_bytes self.old piece.now).presses) }
         ensures rest { OnOk result (self.new ≡ parsing_after self.old piece.now) }
@@ -99,7 +103,7 @@ impl<const N: usize> Parser<N> {
         Ok(keys)
     }
 
-    // What `flush` gives and leaves.
+    /// Gives and leaves what `flush` does.
     fn decide_all(&mut self) -> Result<Keys, AllocError>
         ensures keys { IfOk result (λ keys. keys ≡ (flushed self.old).presses) }
         ensures rest { OnOk result (self.new ≡ parsing_flushed self.old) }
@@ -112,13 +116,14 @@ impl<const N: usize> Parser<N> {
         Ok(keys)
     }
 
+    /// Tells whether a paste is open.
     fn is_in_paste(&self) -> bool
         ensures { result ≡ is_some self.now.held.paste }
     {
         self.paste.is_some()
     }
 
-    // Adds the characters of a piece to the text.
+    /// Adds the characters of a piece to the text.
     fn decode(&mut self, piece: &[u8]) -> Result<(), AllocError>
         ensures { OnOk result (self.new ≡ decoded_after self.old piece.now) }
     {
@@ -128,7 +133,7 @@ impl<const N: usize> Parser<N> {
         Ok(())
     }
 
-    // Adds U+FFFD for the bytes of an unfinished character.
+    /// Adds U+FFFD for the bytes of an unfinished character.
     fn finish_character(&mut self) -> Result<(), AllocError>
         ensures { OnOk result (self.new ≡ finished self.old) }
     {
@@ -137,10 +142,14 @@ impl<const N: usize> Parser<N> {
         Ok(())
     }
 
-    // Takes the key presses off the front of the text, or of the open paste and the text behind it.
+    /// Takes the key presses off the front of the text, or of the open paste and the text behind it.
     fn cut_held(&mut self, flush: bool) -> Result<Keys, AllocError>
-        ensures keys { IfOk result (λ keys. keys ≡ (fed_by self.old.rows flush self.old.held.paste self.old.held.text).presses) }
-        ensures rest { OnOk result (self.new ≡ record self.old { held = (fed_by self.old.rows flush self.old.held.paste self.old.held.text).held }) }
+        ensures keys { IfOk result (λ keys.
+            keys ≡ (fed_by self.old.rows flush self.old.held.paste self.old.held.text).presses) }
+        ensures rest { OnOk result (self.new
+            ≡ record self.old {
+              held = (fed_by self.old.rows flush self.old.held.paste self.old.held.text).held;
+            }) }
         ensures short { OnOk result (is_short self.old.rows ≡ true) }
     {
         let alloc = *self.text.allocator();
@@ -156,7 +165,7 @@ impl<const N: usize> Parser<N> {
     }
 }
 
-// Adds U+FFFD where there are bytes.
+/// Adds U+FFFD where there are bytes.
 fn add_unfinished(bytes: &[u8], text: &mut Vec<char>) -> Result<(), AllocError>
     ensures { OnOk result (text.new.items ≡ text.old.items ++ unfinished_char bytes.now) }
 {
@@ -166,7 +175,7 @@ fn add_unfinished(bytes: &[u8], text: &mut Vec<char>) -> Result<(), AllocError>
     Ok(())
 }
 
-// Drops the first elements.
+/// Drops the first elements.
 fn drop_front<T: Drop>(items: &mut Vec<T>, count: usize)
     requires { count ≤ vec_len items.old }
     ensures { items.new.items ≡ drop count items.old.items }

@@ -47,7 +47,8 @@ impl OpenPaste {
     /// Reads a character, and tells whether it completes the end mark.
     pub fn step(&mut self, c: char) -> Result<bool, AllocError>
         ensures ended { IfOk result (λ ended. ended ≡ is_none (step self.old c)) }
-        ensures open_still { IfOk result (λ ended. ended ≡ false → step self.old c ≡ Some self.new) }
+        ensures open_still { IfOk result (λ ended. ended ≡ false
+            → step self.old c ≡ Some self.new) }
         ensures text { IfOk result (λ ended. ended ≡ true → self.new.text ≡ self.old.text) }
     {
         if ENDING[self.marked] != c {
@@ -61,7 +62,7 @@ impl OpenPaste {
         Ok(false)
     }
 
-    // Reads a character that does not go on with the end mark.
+    /// Reads a character that does not go on with the end mark.
     fn miss(&mut self, c: char) -> Result<(), AllocError>
         ensures { OnOk result (self.new ≡ missed self.old c) }
     {
@@ -86,6 +87,7 @@ impl OpenPaste {
     }
 }
 
+/// Adds characters as they came.
 fn add_slice(text: &mut PastedText, chars: &[char]) -> Result<(), AllocError>
     ensures { OnOk result (text.new ≡ add_all chars.now text.old) }
 {

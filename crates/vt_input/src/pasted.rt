@@ -42,7 +42,7 @@ impl PastedText {
         }
     }
 
-    // Keeps a character, but for those past the limit.
+    /// Keeps a character, but for those past the limit.
     fn keep(&mut self, c: char) -> Result<(), AllocError>
         ensures { OnOk result
             (self.new ≡ record { kept = kept_with self.old.kept c; returned = self.old.returned }) }

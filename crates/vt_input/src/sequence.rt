@@ -44,14 +44,14 @@ pub fn control_sequence_of(text: &[char]) -> ControlSequence
     }
 }
 
-// The text begins with ESC [.
+/// Tells whether the text begins with ESC [.
 fn is_introduced(text: &[char]) -> bool
     ensures { result ≡ is_prefix introducer text.now }
 {
     text.len() >= 2 && text[0] == '\u{1B}' && text[1] == '['
 }
 
-// Whether an intermediate character has come with this one; none where it cannot stand here.
+/// Tells whether an intermediate character has come with this one; none where it cannot stand here.
 fn late_after(c: char, late: bool) -> Option<bool>
     ensures { result ≡ late_after c late }
 {

@@ -5,7 +5,7 @@ ghost use Rattle.vt_input.specs.Known.{row_of};
 ghost use Rattle.vt_input.specs.StandardRows.{standard_rows};
 
 use crate::row::SeqRow;
-use key_names::{Key, KeyText};
+use key_names::{Key, text_of_codes};
 use std::alloc::{AllocError, Global};
 use std::marker::Model;
 
@@ -360,27 +360,17 @@ pub fn standard_table(alloc: Global) -> Result<SeqTable<75>, AllocError>
     Ok(SeqTable { rows })
 }
 
+/// Returns the rows of these sequences.
 fn rows_of(alloc: Global, known: &[Known]) -> Result<Vec<SeqRow>, AllocError>
     ensures { IfOk result (λ rows. rows.items ≡ map row_of known.now) }
 {
     let mut rows = Vec::new(alloc);
     for entry in known {
-        let text = text_of(alloc, entry.text)?;
+        let text = text_of_codes(alloc, entry.text)?;
         rows.push(SeqRow {
             text,
             key: entry.key,
         })?;
     }
     Ok(rows)
-}
-
-// A text whose characters are the codes of these bytes.
-fn text_of(alloc: Global, bytes: &[u8]) -> Result<KeyText, AllocError>
-    ensures { IfOk result (λ text. text ≡ bytes.now) }
-{
-    let mut text = KeyText::new(alloc);
-    for byte in bytes {
-        text.push(*byte as char)?;
-    }
-    Ok(text)
 }

@@ -103,7 +103,7 @@ fn are_presses(keys: &Keys, expected: &[(Key, &[char])]) -> bool {
     keys.len() == expected.len()
 }
 
-// Each press is a character.
+/// Tells whether each press is a character.
 fn are_chars(keys: &Keys, chars: &[char]) -> bool {
     for (i, c) in chars.iter().enumerate() {
         if !is_press(keys.get(i), Key::Char(*c), &[*c]) {
@@ -113,7 +113,7 @@ fn are_chars(keys: &Keys, chars: &[char]) -> bool {
     keys.len() == chars.len()
 }
 
-// The first press is escape, and each further one a character of the bytes.
+/// Tells whether the first press is escape, and each further one a character of the bytes.
 fn is_typed_after_escape(keys: &Keys, bytes: &[u8]) -> bool {
     for (i, byte) in bytes.iter().enumerate() {
         let key = if *byte == 0x1B {
@@ -128,7 +128,7 @@ fn is_typed_after_escape(keys: &Keys, bytes: &[u8]) -> bool {
     keys.len() == bytes.len()
 }
 
-// What a new parser gives for the bytes in two pieces.
+/// Returns what a new parser gives for the bytes in two pieces.
 fn fed_in_two(alloc: Global, bytes: &[u8], at: usize) -> Result<(Keys, Keys), NoMemory> {
     let (front, back) = bytes.split_at(at.min(bytes.len()));
     let mut parser = new_parser(alloc)?;
@@ -137,7 +137,7 @@ fn fed_in_two(alloc: Global, bytes: &[u8], at: usize) -> Result<(Keys, Keys), No
     Ok((first, second))
 }
 
-// The bytes wait, and a flush types them.
+/// Tells whether the bytes wait, and a flush types them.
 fn waits_and_is_typed(alloc: Global, bytes: &[u8]) -> Result<bool, NoMemory> {
     let mut parser = new_parser(alloc)?;
     let waits = parser.feed(bytes)?.len() == 0 && parser.holds();
@@ -155,7 +155,7 @@ fn flushes_each_proper_prefix(rt: HostRuntime) -> Result<(), Fail> {
     Ok(())
 }
 
-// The sequence is one key, but for escape, which waits, and the mark that opens a paste.
+/// Tells whether the sequence is one key, but for escape, which waits, and the mark that opens a paste.
 fn is_read_at(alloc: Global, bytes: &[u8], key: Key, at: usize) -> Result<bool, NoMemory> {
     let (first, second) = fed_in_two(alloc, bytes, at)?;
     let read = match second.get(0) {
@@ -215,7 +215,7 @@ fn ignores_sequences_with_intermediates(rt: HostRuntime) -> Result<(), Fail> {
     Ok(())
 }
 
-// ESC [, some digits and a final letter.
+/// Returns ESC [, some digits and a final letter.
 fn sequence(alloc: Global, digits: usize) -> Result<Vec<u8>, NoMemory> {
     let mut bytes = Vec::from_slice(alloc, b"\x1B[")?;
     for _ in 0..digits {
@@ -251,7 +251,7 @@ const PASTED_TEXT: [char; 12] = [
     'a', '\n', 'b', '\n', 'c', '\u{1B}', '[', '2', '0', '\u{FFFD}', 'e', '\n',
 ];
 
-// The paste is one key, with a flush at a place of it behind its opening mark.
+/// Tells whether the paste is one key, with a flush at a place of it behind its opening mark.
 fn is_pasted_at(alloc: Global, at: usize) -> Result<bool, NoMemory> {
     let (front, back) = PASTED.split_at(at.min(PASTED.len()));
     let mut parser = new_parser(alloc)?;
@@ -269,7 +269,7 @@ fn pastes_at_each_cut(rt: HostRuntime) -> Result<(), Fail> {
     Ok(())
 }
 
-// The length of a pasted text of so many pieces of 65,536 letters.
+/// Returns the length of a pasted text of so many pieces of 65,536 letters.
 fn pasted_length(alloc: Global, pieces: usize) -> Result<usize, NoMemory> {
     let letters = vec![in alloc; b'a'; 65_536]?;
     let mut parser = new_parser(alloc)?;
