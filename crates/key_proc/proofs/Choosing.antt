@@ -84,9 +84,6 @@ pub record Parted {X : Type 0} (rank : X → ℕ) (xs : List X) : Type 0 where
 lesser : (a b c : ℕ) → a < b → leb b c ≡ true → ltb a c ≡ true
 lesser a b c h e = lt-ltb a c (omega (arith, leb-true b c e))
 
-lesser_too : (a b c : ℕ) → a < b → ltb b c ≡ true → ltb a c ≡ true
-lesser_too a b c h e = lt-ltb a c (omega (arith, ltb-true b c e))
-
 at_most : (a b c : ℕ) → a ≤ b → leb b c ≡ true → leb a c ≡ true
 at_most a b c h e = le-leb a c (omega (arith, leb-true b c e))
 

@@ -38,6 +38,7 @@ pub(crate) struct Found {
 }
 
 impl Found {
+    /// Returns that nothing was found yet.
     fn nothing(keys: &[Key]) -> Found
         ensures { IsFound [] keys.now result }
     {
@@ -50,9 +51,10 @@ impl Found {
         }
     }
 
-    // Takes one more binding into account.
+    /// Takes one more binding into account.
     fn see(&mut self, binding: &Binding, keys: &[Key])
-        ensures { (seen : List Binding) → IsFound seen keys.now self.old → IsFound (seen ++ binding.now ∷ []) keys.now self.new }
+        ensures { (seen : List Binding) → IsFound seen keys.now self.old
+            → IsFound (seen ++ binding.now ∷ []) keys.now self.new }
     {
         let choice = choice_of(binding);
         let eager = is_eager_match(binding, keys);
@@ -71,7 +73,8 @@ impl Found {
     pub(crate) fn on_front(&self, count: usize) -> Option<Choice>
         requires some { 1 ≤ count }
         requires few { count ≤ 3 }
-        ensures { (bindings : List Binding) (keys : List Key) → IsFound bindings keys self.now → result ≡ best_of (matching (take count keys)) bindings }
+        ensures { (bindings : List Binding) (keys : List Key) → IsFound bindings keys self.now
+            → result ≡ best_of (matching (take count keys)) bindings }
     {
         match count {
             1 => self.one,
@@ -81,7 +84,7 @@ impl Found {
     }
 }
 
-// The first `count` keys, or all where there are fewer.
+/// Returns the first `count` keys, or all where there are fewer.
 fn front(keys: &[Key], count: usize) -> &[Key]
     ensures { result.now ≡ take count keys.now }
 {
@@ -92,7 +95,7 @@ fn front(keys: &[Key], count: usize) -> &[Key]
     }
 }
 
-// What is kept of a binding.
+/// Tells what is kept of a binding.
 fn choice_of(binding: &Binding) -> Choice
     ensures { result ≡ choice_of binding.now }
 {
@@ -103,28 +106,28 @@ fn choice_of(binding: &Binding) -> Choice
     }
 }
 
-// The binding matches the first `count` keys, or all where there are fewer.
+/// Tells whether the binding matches the first `count` keys, or all where there are fewer.
 fn is_match(binding: &Binding, keys: &[Key], count: usize) -> bool
     ensures { result ≡ matching (take count keys.now) binding.now }
 {
     matches(binding.keys.as_slice(), front(keys, count))
 }
 
-// The binding is eager, and matches all these keys.
+/// Tells whether the binding is eager, and matches all these keys.
 fn is_eager_match(binding: &Binding, keys: &[Key]) -> bool
     ensures { result ≡ eager_matching keys.now binding.now }
 {
     binding.eager && matches(binding.keys.as_slice(), keys)
 }
 
-// The binding has more keys than these, which its first keys match.
+/// Tells whether the binding has more keys than these, which its first keys match.
 fn is_longer(binding: &Binding, keys: &[Key]) -> bool
     ensures { result ≡ longer keys.now binding.now }
 {
     begins(binding.keys.as_slice(), keys)
 }
 
-// The better of the best so far and a binding behind it, if that is one that counts.
+/// Returns the better of the best so far and a binding behind it, if that is one that counts.
 fn better(counts: bool, best: Option<Choice>, choice: Choice) -> Option<Choice>
     ensures { result ≡ better counts best choice }
 {
@@ -135,9 +138,10 @@ fn better(counts: bool, best: Option<Choice>, choice: Choice) -> Option<Choice>
     }
 }
 
-// The binding may fire: its keys agree with these, and its filter holds, which is asked only then.
+/// Tells whether the binding may fire: its keys agree with these, and its filter holds, which is asked only then.
 fn may_fire(binding: &Binding, facts: &Facts, keys: &[Key]) -> bool
-    ensures { result ≡ (agrees binding.now.keys keys.now && holds (has facts.now) binding.now.filter) }
+    ensures { result
+        ≡ (agrees binding.now.keys keys.now && holds (has facts.now) binding.now.filter) }
 {
     agrees(binding.keys.as_slice(), keys) && binding.filter.holds(facts)
 }

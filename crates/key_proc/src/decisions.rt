@@ -22,7 +22,8 @@ pub(crate) enum Decision {
 pub(crate) fn decide(found: &Found, count: usize, flush: bool) -> Decision
     requires some { 1 ≤ count }
     requires few { count ≤ 3 }
-    ensures decided { (bindings : List Binding) (keys : List Key) → IsFound bindings keys found.now → length keys ≡ count → result ≡ decided bindings keys flush }
+    ensures decided { (bindings : List Binding) (keys : List Key) → IsFound bindings keys found.now
+        → length keys ≡ count → result ≡ decided bindings keys flush }
     ensures used { UsesSome result count }
 {
     if let Some(choice) = found.eager {
@@ -40,10 +41,11 @@ pub(crate) fn decide(found: &Found, count: usize, flush: bool) -> Decision
     }
 }
 
-// Fires on the longest front of at most `count` keys that a binding matches.
+/// Fires on the longest front of at most `count` keys that a binding matches.
 fn on_longest_front(found: &Found, count: usize) -> Option<Decision>
     requires { count ≤ 3 }
-    ensures decided { (bindings : List Binding) (keys : List Key) → IsFound bindings keys found.now → result ≡ decided_on_longest keys bindings count }
+    ensures decided { (bindings : List Binding) (keys : List Key) → IsFound bindings keys found.now
+        → result ≡ decided_on_longest keys bindings count }
     ensures used { IfSome result (λ decision. UsesSome decision count) }
 {
     let mut used = count;

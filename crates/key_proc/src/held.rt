@@ -46,7 +46,8 @@ impl Model for Held {
 
     ghost use Rattle.key_proc.specs.HeldKeys.{HasNoGap};
 
-    ghost view = { λ h. option_to_list h.first ++ option_to_list h.second ++ option_to_list h.third };
+    ghost view = { λ h. option_to_list h.first ++ option_to_list h.second
+        ++ option_to_list h.third };
 
     ghost invariant = { λ h. HasNoGap h.first h.second h.third };
 }
@@ -115,14 +116,15 @@ impl Held {
     ) -> Fired
         ensures answer { result ≡ fires table.now (has facts.now) self.old flush }
         ensures rest { self.new ≡ drop (taken result) self.old }
-        ensures fewer { result ≢ Fired.Wait → result ≢ Fired.Nothing → length self.new < length self.old }
+        ensures fewer { result ≢ Fired.Wait → result ≢ Fired.Nothing
+            → length self.new < length self.old }
         ensures few { result ≡ Fired.Wait → length self.new < 3 }
     {
         let fired = self.decide_all(table, facts, flush);
         fired
     }
 
-    // What `decide` answers and leaves.
+    /// Answers and leaves what `decide` does.
     fn decide_all<const N: usize>(
         &mut self,
         table: &Bindings<N>,
@@ -143,10 +145,11 @@ impl Held {
         }
     }
 
-    // Decides on the keys that are held.
+    /// Decides on the keys that are held.
     fn decision<const N: usize>(&self, table: &Bindings<N>, facts: &Facts, flush: bool) -> Decision
         requires { 1 ≤ length self.now }
-        ensures decided { result ≡ decided (active table.now (has facts.now)) (keys_of self.now) flush }
+        ensures decided { result
+            ≡ decided (active table.now (has facts.now)) (keys_of self.now) flush }
         ensures used { UsesSome result (length self.now) }
         ensures sized { AllSized table.now }
     {
@@ -156,12 +159,13 @@ impl Held {
         decide(&found, count, flush)
     }
 
-    // Takes the keys on which a binding fires.
+    /// Takes the keys on which a binding fires.
     fn fire(&mut self, choice: Choice, used: usize) -> Fired
         requires some { 1 ≤ used }
         requires few { used ≤ length self.old }
         requires small { length self.old ≤ 3 }
-        ensures answer { (first : KeyPress) (more : List KeyPress) → self.old ≡ first ∷ more → result ≡ answer_of first more (Decision.Fire choice used) }
+        ensures answer { (first : KeyPress) (more : List KeyPress) → self.old ≡ first ∷ more
+            → result ≡ answer_of first more (Decision.Fire choice used) }
         ensures rest { self.new ≡ drop (taken result) self.old }
     {
         match self.take(used) {
@@ -175,10 +179,11 @@ impl Held {
         }
     }
 
-    // Takes the first key, on which nothing fires.
+    /// Takes the first key, on which nothing fires.
     fn drop_first(&mut self) -> Fired
         requires { 1 ≤ length self.old }
-        ensures answer { (first : KeyPress) (more : List KeyPress) → self.old ≡ first ∷ more → result ≡ Fired.Dropped first }
+        ensures answer { (first : KeyPress) (more : List KeyPress) → self.old ≡ first ∷ more
+            → result ≡ Fired.Dropped first }
         ensures rest { self.new ≡ drop (taken result) self.old }
     {
         match self.take(1) {
@@ -187,7 +192,7 @@ impl Held {
         }
     }
 
-    // The keys in the places of the presses, and `Any` where there is none.
+    /// Returns the keys in the places of the presses, and `Any` where there is none.
     fn keys(&self) -> [Key; 3]
         ensures { take (length self.now) result ≡ keys_of self.now }
     {
@@ -198,7 +203,7 @@ impl Held {
         ]
     }
 
-    // Takes the first `count` keys, and hands out the last of them.
+    /// Takes the first `count` keys, and hands out the last of them.
     fn take(&mut self, count: usize) -> Option<KeyPress>
         requires some { 1 ≤ count }
         requires few { count ≤ length self.old }
@@ -224,6 +229,7 @@ impl Held {
     }
 }
 
+/// Returns the key of a press, and `Any` where there is none.
 fn key_or_any(press: &Option<KeyPress>) -> Key
     ensures { result ≡ key_or_any press.now }
 {

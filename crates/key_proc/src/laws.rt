@@ -17,12 +17,15 @@ use crate::held::Fired;
 ///
 /// The rules are those of eager bindings, and of the longest front of the held keys that a binding matches.
 pub fn fewest_any_fires()
-    ensures eager { (table : List Binding) (facts : Fact → Bool) (first : KeyPress) (more : List KeyPress) (flush : Bool)
+    ensures eager { (table : List Binding) (facts : Fact → Bool) (first : KeyPress)
+        (more : List KeyPress) (flush : Bool)
         (before : List Binding) (binding : Binding) (after : List Binding) →
         active table facts ≡ before ++ binding ∷ after →
         HasFewestAny (eager_matching (keys_of (first ∷ more))) before binding after →
-        fires table facts (first ∷ more) flush ≡ fire_on first more (length (first ∷ more)) binding }
-    ensures longest { (table : List Binding) (facts : Fact → Bool) (first : KeyPress) (more : List KeyPress) (flush : Bool)
+        fires table facts (first ∷ more) flush
+        ≡ fire_on first more (length (first ∷ more)) binding }
+    ensures longest { (table : List Binding) (facts : Fact → Bool) (first : KeyPress)
+        (more : List KeyPress) (flush : Bool)
         (before : List Binding) (binding : Binding) (after : List Binding) (n : ℕ) →
         active table facts ≡ before ++ binding ∷ after →
         MayFire (active table facts) (keys_of (first ∷ more)) flush →
@@ -37,7 +40,8 @@ pub fn fewest_any_fires()
 pub fn flush_ends()
     ensures never_waits { (table : List Binding) (facts : Fact → Bool) (held : List KeyPress) →
         fires table facts held true ≢ Fired.Wait }
-    ensures nothing_held { (table : List Binding) (facts : Fact → Bool) (held : List KeyPress) (flush : Bool) →
+    ensures nothing_held { (table : List Binding) (facts : Fact → Bool) (held : List KeyPress)
+        (flush : Bool) →
         fires table facts held flush ≡ Fired.Nothing → held ≡ [] }
     ensures ends { (table : List Binding) (rounds : List (Fact → Bool)) (held : List KeyPress) →
         length held ≤ length rounds → held_after table rounds held ≡ [] }
@@ -45,5 +49,6 @@ pub fn flush_ends()
 
 /// The filter of a row's tests holds exactly where all of them do.
 pub fn rows_hold_by_tests()
-    ensures { (facts : Fact → Bool) (tests : List FactTest) → holds facts (all_filter tests) ≡ list_all (test_holds facts) tests }
+    ensures { (facts : Fact → Bool) (tests : List FactTest)
+        → holds facts (all_filter tests) ≡ list_all (test_holds facts) tests }
 {}

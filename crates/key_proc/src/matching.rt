@@ -4,7 +4,7 @@ ghost use Rattle.key_proc.specs.Matching.{same_key, is_any, matches_key, matches
 
 use key_names::Key;
 
-// The two keys are one.
+/// Tells whether the two keys are one.
 fn is_same(a: Key, b: Key) -> bool
     ensures test { result ≡ same_key a b }
     ensures same { IsTrue (same_key a b) ↔ (a ≡ b) }
@@ -12,13 +12,14 @@ fn is_same(a: Key, b: Key) -> bool
     a == b
 }
 
-// The bound key stands for each key.
+/// Tells whether the bound key stands for each key.
 fn is_any(bound: Key) -> bool
     ensures { result ≡ is_any bound }
 {
     is_same(bound, Key::Any)
 }
 
+/// Tells whether a bound key matches a key.
 fn matches_key(bound: Key, key: Key) -> bool
     ensures { result ≡ matches_key bound key }
 {

@@ -57,7 +57,7 @@ pub fn bindings_of<const N: usize>(
     Ok(Bindings::from_rows(bindings))
 }
 
-// The bindings of the rows.
+/// Returns the bindings of the rows.
 fn bindings_in(alloc: Global, rows: &[BindingRow]) -> Result<Vec<Binding>, NoMemory>
     ensures { IfOk result (λ bindings. bindings.items ≡ map binding_of rows.now) }
 {
@@ -68,6 +68,7 @@ fn bindings_in(alloc: Global, rows: &[BindingRow]) -> Result<Vec<Binding>, NoMem
     Ok(bindings)
 }
 
+/// Returns the binding of a row.
 fn binding_of(alloc: Global, row: BindingRow) -> Result<Binding, NoMemory>
     ensures { IfOk result (λ binding. binding ≡ binding_of row) }
 {
@@ -89,6 +90,7 @@ fn binding_of(alloc: Global, row: BindingRow) -> Result<Binding, NoMemory>
     }
 }
 
+/// Returns the keys of a row.
 fn keys_of_row(alloc: Global, keys: RowKeys) -> Result<BoundKeys, NoMemory>
     ensures { IfOk result (λ bound. bound ≡ keys_of_row keys) }
 {
@@ -101,6 +103,7 @@ fn keys_of_row(alloc: Global, keys: RowKeys) -> Result<BoundKeys, NoMemory>
     }
 }
 
+/// Returns the filter of a row.
 fn filter_of(alloc: Global, filter: FactFilter) -> Result<Filter, NoMemory>
     ensures { IfOk result (λ read. read ≡ filter_of filter) }
 {
@@ -113,7 +116,7 @@ fn filter_of(alloc: Global, filter: FactFilter) -> Result<Filter, NoMemory>
     }
 }
 
-// The filter that holds where all these tests do.
+/// Returns the filter that holds where all these tests do.
 fn all_filter(alloc: Global, tests: &[FactTest]) -> Result<Filter, NoMemory>
     ensures { IfOk result (λ filter. filter ≡ all_filter tests.now) }
 {
@@ -126,6 +129,7 @@ fn all_filter(alloc: Global, tests: &[FactTest]) -> Result<Filter, NoMemory>
     }
 }
 
+/// Returns the filter that holds where the test does.
 fn test_filter(alloc: Global, test: FactTest) -> Result<Filter, NoMemory>
     ensures { IfOk result (λ filter. filter ≡ test_filter test) }
 {

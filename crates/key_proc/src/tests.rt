@@ -214,7 +214,7 @@ fn answer_of(fired: &Fired) -> Answer {
     }
 }
 
-// What is decided of these keys where these facts hold, and how many keys are left then.
+/// Tells what is decided of these keys where these facts hold, and how many keys are left then.
 fn decided(
     rt: &impl Abort,
     alloc: Global,
