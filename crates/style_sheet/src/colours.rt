@@ -9,8 +9,10 @@ use cell_grid::Colour;
 
 /// Returns the colour with this name, or no colour by the name of the terminal's own.
 pub(crate) fn find_colour_word(name: &[u8]) -> Option<Option<Colour>>
-    ensures found { IfSome result (λ colour. IfSome colour IsColour × (colour_word colour ≡ name.now)) }
-    ensures none { IfNone result ((colour : Option Colour) → IfSome colour IsColour → colour_word colour ≢ name.now) }
+    ensures found { IfSome result (λ colour.
+        IfSome colour IsColour × (colour_word colour ≡ name.now)) }
+    ensures none { IfNone result ((colour : Option Colour) → IfSome colour IsColour
+        → colour_word colour ≢ name.now) }
 {
     if name == b"default".as_slice() {
         return Some(None);
@@ -21,7 +23,8 @@ pub(crate) fn find_colour_word(name: &[u8]) -> Option<Option<Colour>>
 
 fn find_colour(name: &[u8]) -> Option<Colour>
     ensures found { IfSome result (λ colour. IsColour colour × (colour_name colour ≡ name.now)) }
-    ensures none { IfNone result ((colour : Colour) → IsColour colour → colour_name colour ≢ name.now) }
+    ensures none { IfNone result ((colour : Colour) → IsColour colour
+        → colour_name colour ≢ name.now) }
 {
     if let Some(colour) = find_rgb(name) {
         return Some(colour);
@@ -76,7 +79,8 @@ fn hue_name(number: u8) -> &'static [u8]
 /// Returns the colour of `#` and six digits.
 fn find_rgb(name: &[u8]) -> Option<Colour>
     ensures found { IfSome result (λ colour. IsColour colour × (colour_name colour ≡ name.now)) }
-    ensures none { IfNone result ((r g b : ℕ) → r < 256 → g < 256 → b < 256 → colour_name (Rgb r g b) ≢ name.now) }
+    ensures none { IfNone result ((r g b : ℕ) → r < 256 → g < 256 → b < 256
+        → colour_name (Rgb r g b) ≢ name.now) }
 {
     let [b'#', r, s, g, h, b, c] = name else {
         return None;

@@ -24,7 +24,8 @@ pub(crate) fn no_classes(alloc: Global) -> Result<LruCache<String, Attrs>, NoMem
 pub(crate) fn recall(known: &mut LruCache<String, Attrs>, class: &str) -> Option<Attrs>
     ensures attrs { (rules : List StyleRule) → AreKnown rules known.old.entries
         → IfSome result (λ attrs. attrs ≡ class_attrs rules class.now) }
-    ensures known { (rules : List StyleRule) → AreKnown rules known.old.entries → AreKnown rules known.new.entries }
+    ensures known { (rules : List StyleRule) → AreKnown rules known.old.entries
+        → AreKnown rules known.new.entries }
 {
     if !known.promote(class) {
         return None;
@@ -34,7 +35,8 @@ pub(crate) fn recall(known: &mut LruCache<String, Attrs>, class: &str) -> Option
 
 /// Holds the class, where there is memory for it.
 pub(crate) fn remember(known: &mut LruCache<String, Attrs>, class: &str, attrs: Attrs)
-    ensures { (rules : List StyleRule) → AreKnown rules known.old.entries → attrs ≡ class_attrs rules class.now
+    ensures { (rules : List StyleRule) → AreKnown rules known.old.entries
+        → attrs ≡ class_attrs rules class.now
         → AreKnown rules known.new.entries }
 {
     let alloc = *known.allocator();

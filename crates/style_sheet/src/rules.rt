@@ -55,7 +55,8 @@ impl Rule {
 
 /// Returns the rule that has this text, if one has.
 pub(crate) fn read_rule(alloc: Global, text: &[char]) -> Result<Option<Rule>, NoMemory>
-    ensures found { IfOk result (λ found. IfSome found (λ rule. IsRule rule × (rule_text rule ≡ text.now))) }
+    ensures found { IfOk result (λ found.
+        IfSome found (λ rule. IsRule rule × (rule_text rule ≡ text.now))) }
     ensures none { IfOk result (λ found. IfNone found (¬ IsRuleText text.now)) }
 {
     let (name, behind) = cut(text, '=');
@@ -93,7 +94,8 @@ fn read_changes(alloc: Global, text: &[char]) -> Result<Option<Vec<Change>>, NoM
 /// Returns the class with this name.
 fn read_class(alloc: Global, name: &[char]) -> Result<Option<Class>, NoMemory>
     ensures found { IfOk result (λ found. IfSome found (λ class. class_name class ≡ name.now)) }
-    ensures none { IfOk result (λ found. IfNone found ((class : Class) → class_name class ≢ name.now)) }
+    ensures none { IfOk result (λ found.
+        IfNone found ((class : Class) → class_name class ≢ name.now)) }
 {
     let Some(bytes) = ascii_bytes(alloc, name)? else {
         return Ok(None);
@@ -103,7 +105,8 @@ fn read_class(alloc: Global, name: &[char]) -> Result<Option<Class>, NoMemory>
 
 /// Returns the change that has this word.
 fn read_change(alloc: Global, word: &[char]) -> Result<Option<Change>, NoMemory>
-    ensures found { IfOk result (λ found. IfSome found (λ change. IsChange change × (change_word change ≡ word.now))) }
+    ensures found { IfOk result (λ found.
+        IfSome found (λ change. IsChange change × (change_word change ≡ word.now))) }
     ensures none { IfOk result (λ found. IfNone found
         ((change : Change) → IsChange change → change_word change ≢ word.now)) }
 {

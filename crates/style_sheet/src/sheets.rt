@@ -68,7 +68,8 @@ impl Sheet {
         // The fault tells the first rule outside the grammar.
         ensures cause { IfErr result (IsCauseOf rules.now) }
         ensures outside { (at : ℕ) → IsFirstOutside rules.now at
-            → MatchResult result (λ _. ⊥) (λ fault. (fault ≡ StyleFault.BadStyle at) ⊎ (fault ≡ StyleFault.NoMemory)) }
+            → MatchResult result (λ _. ⊥)
+            (λ fault. (fault ≡ StyleFault.BadStyle at) ⊎ (fault ≡ StyleFault.NoMemory)) }
     {
         let rules = read_rules(alloc, rules.as_slice())?;
         let patches = patches_of(&rules);
@@ -102,7 +103,8 @@ impl Sheet {
 
 /// Returns the attributes of the class with this name.
 fn work_out(name: &[u8], patches: &[Patch; CLASS_COUNT]) -> Attrs
-    ensures { (rules : List StyleRule) → ArePatchesOf rules patches.now → result ≡ class_attrs rules name.now }
+    ensures { (rules : List StyleRule) → ArePatchesOf rules patches.now
+        → result ≡ class_attrs rules name.now }
 {
     let mut attrs = Attrs::plain();
     for (place, byte) in name.iter().enumerate() {

@@ -21,7 +21,8 @@ const FLAGS: [Flag; 7] = [
 /// Returns the change that has this word.
 pub(crate) fn find_change(word: &[u8]) -> Option<Change>
     ensures found { IfSome result (λ change. IsChange change × (change_word change ≡ word.now)) }
-    ensures none { IfNone result ((change : Change) → IsChange change → change_word change ≢ word.now) }
+    ensures none { IfNone result ((change : Change) → IsChange change
+        → change_word change ≢ word.now) }
 {
     match word {
         [b'f', b'g', b':', name @ ..] => {

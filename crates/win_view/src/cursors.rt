@@ -8,7 +8,7 @@ use crate::places::{Place, place_in_line};
 use crate::{Content, Scroll};
 use cell_grid::Size;
 
-/// The row and the column of the cursor in the content. The rows above it are counted, and not built.
+/// Returns the row and the column of the cursor in the content. The rows above it are counted, and not built.
 pub fn cursor_place(content: &Content, width: u32) -> Place
     requires content { IsContent content.now }
     requires width { 1 ≤ width }
@@ -36,8 +36,8 @@ pub fn cursor_place(content: &Content, width: u32) -> Place
     }
 }
 
-/// The row and the column of the cursor in a window of this size: those in the content less the scroll, and 0 where the scroll is
-/// greater. The window's cells are not built.
+/// Returns the row and the column of the cursor in a window of this size: those in the content less the scroll, and 0
+/// where the scroll is greater. The window's cells are not built.
 pub fn seen_cursor(content: &Content, size: Size, scroll: Scroll) -> (u32, u32)
     requires { IsContent content.now }
     ensures row { result.0 ≡ seen_row content.now size.cols scroll.down }

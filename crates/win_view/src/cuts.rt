@@ -22,7 +22,8 @@ pub fn lay_columns(
     requires fits { col + width ≤ columns grid.old }
     ensures count { result ≡ length (columns_from across width line.now) }
     ensures laid { grid.new
-        ≡ slice_set grid.old row (laid_at (row_at grid.old row) col (columns_from across width line.now)) }
+        ≡ slice_set grid.old row (laid_at (row_at grid.old row) col
+        (columns_from across width line.now)) }
     ensures cols { columns grid.new ≡ columns grid.old }
 {
     let start = across.min(line.len());
@@ -32,7 +33,7 @@ pub fn lay_columns(
     shown.len()
 }
 
-/// The attributes of a cell, which a Tail has from its Lead.
+/// Returns the attributes of a cell, which a Tail has from its Lead.
 fn attrs_of(cell: &Cell) -> Attrs
     ensures { result ≡ attrs_of cell.now }
 {
@@ -42,7 +43,7 @@ fn attrs_of(cell: &Cell) -> Attrs
     }
 }
 
-/// The attributes of the cell before a place of a line, if there is one.
+/// Returns the attributes of the cell before a place of a line, if there is one.
 fn attrs_before(line: &[Cell], at: usize) -> Attrs
     requires { at ≤ length line.now }
     ensures { 0 < at → result ≡ attrs_of (slice_index_or line.now (at - 1) blank) }
@@ -53,7 +54,7 @@ fn attrs_before(line: &[Cell], at: usize) -> Attrs
     attrs_of(&line[at - 1])
 }
 
-/// A space in place of half a character.
+/// Returns a space in place of half a character.
 fn half_of(attrs: Attrs) -> Cell
     ensures { result ≡ half_of attrs }
 {
@@ -67,7 +68,8 @@ fn lay_cut(cells: &[Cell], attrs: Attrs, row: u32, col: u32, grid: &mut Grid)
     requires row_within { row < length grid.old }
     requires fits { col + length cells.now ≤ columns grid.old }
     ensures laid { grid.new
-        ≡ slice_set grid.old row (laid_at (row_at grid.old row) col (spaced_end (spaced_start attrs cells.now))) }
+        ≡ slice_set grid.old row (laid_at (row_at grid.old row) col
+        (spaced_end (spaced_start attrs cells.now))) }
     ensures cols { columns grid.new ≡ columns grid.old }
 {
     if !cells.is_empty() && cells[0].is_tail() {
@@ -85,7 +87,8 @@ fn lay_front(cells: &[Cell], row: u32, col: u32, grid: &mut Grid)
     requires whole { IsWhole (spaced_end cells.now) }
     requires row_within { row < length grid.old }
     requires fits { col + length cells.now ≤ columns grid.old }
-    ensures laid { grid.new ≡ slice_set grid.old row (laid_at (row_at grid.old row) col (spaced_end cells.now)) }
+    ensures laid { grid.new
+        ≡ slice_set grid.old row (laid_at (row_at grid.old row) col (spaced_end cells.now)) }
     ensures cols { columns grid.new ≡ columns grid.old }
 {
     let len = cells.len();

@@ -5,7 +5,7 @@ ghost use Rattle.win_view.specs.FirstRow.{IsFirstRow};
 
 use cell_grid::Cell;
 
-/// How many cells the first row takes, Tails included. It looks at one cell alone.
+/// Returns how many cells the first row takes, Tails included. It looks at one cell alone.
 pub fn first_row(cells: &[Cell], width: usize) -> usize
     requires whole { IsWhole cells.now }
     requires width { 1 ≤ width }

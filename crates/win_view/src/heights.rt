@@ -7,7 +7,7 @@ use crate::Content;
 use crate::rows::count_rows;
 use cell_grid::CellRow;
 
-/// How many rows the content has at this width. It counts them, and builds none.
+/// Returns how many rows the content has at this width. It counts them, and builds none.
 pub fn height(content: &Content, width: u32) -> u32
     requires content { IsContent content.now }
     requires width { 1 ≤ width }
@@ -20,7 +20,7 @@ pub fn height(content: &Content, width: u32) -> u32
     }
 }
 
-/// How many rows these lines have where they are wrapped.
+/// Returns how many rows these lines have where they are wrapped.
 pub fn wrapped_height(lines: &[CellRow], width: u32) -> usize
     requires width { 1 ≤ width }
     requires few { length lines.now + sum_by length lines.now < 2 ^ 31 }

@@ -31,7 +31,7 @@ impl Laying {
     ghost use Rattle.win_view.specs.Showing.{HasRoom, IsStart, passed, shown_of, with_row};
     ghost use Rattle.win_view.specs.Views.{columns_from};
 
-    /// The first row of a content is laid into the first row of a part of this grid.
+    /// Begins to lay the first row of a content into the first row of a part of this grid.
     pub fn new(alloc: Global, viewport: &Viewport, grid: &Grid) -> Result<Laying, NoMemory>
         requires rows_fit { viewport.now.row + viewport.now.size.rows ≤ length grid.now }
         requires cols_fit { viewport.now.col + viewport.now.size.cols ≤ columns grid.now }
@@ -51,20 +51,22 @@ impl Laying {
         })
     }
 
-    /// Whether the rows to come are all below the part.
+    /// Tells whether the rows to come are all below the part.
     fn is_full(&self) -> bool
         ensures { IsTrue result ↔ ((self.now.above ≡ 0) × (self.now.end ≤ self.now.row)) }
     {
         self.above == 0 && self.row >= self.end
     }
 
-    /// The rows of these lines come.
+    /// Lays the rows of these lines.
     pub fn show_lines(&mut self, lines: &[CellRow], grid: &mut Grid)
         requires room { HasRoom self.old grid.old }
         ensures passed { (self.new, grid.new)
-            ≡ fold passed (self.old, grid.old) (flat_map (rows_of (length self.old.spaces.items)) lines.now) }
+            ≡ fold passed (self.old, grid.old)
+            (flat_map (rows_of (length self.old.spaces.items)) lines.now) }
         ensures held { All (IsHeld (length self.old.spaces.items))
-            (shown_of self.old self.old.above (flat_map (rows_of (length self.old.spaces.items)) lines.now)) }
+            (shown_of self.old self.old.above
+            (flat_map (rows_of (length self.old.spaces.items)) lines.now)) }
         ensures room { HasRoom self.new grid.new }
         ensures cols { columns grid.new ≡ columns grid.old }
     {
@@ -76,7 +78,7 @@ impl Laying {
         }
     }
 
-    /// The rows of a line come.
+    /// Lays the rows of a line.
     fn show_line(&mut self, cells: &[Cell], grid: &mut Grid)
         requires whole { IsWhole cells.now }
         requires room { HasRoom self.old grid.old }
@@ -97,10 +99,11 @@ impl Laying {
         self.show_held(rest, grid);
     }
 
-    /// A row of a line comes: the line's own cells of it, which stand there as the width can hold them.
+    /// Lays a row of a line: the line's own cells of it, which stand there as the width can hold them.
     fn show_held(&mut self, row: &[Cell], grid: &mut Grid)
         requires whole { IsWhole row.now }
-        requires fits { length (holdable (length self.old.spaces.items) row.now) ≤ length self.old.spaces.items }
+        requires fits { length (holdable (length self.old.spaces.items) row.now)
+            ≤ length self.old.spaces.items }
         requires room { HasRoom self.old grid.old }
         ensures passed { (self.new, grid.new)
             ≡ passed (self.old, grid.old) (holdable (length self.old.spaces.items) row.now) }
@@ -114,7 +117,7 @@ impl Laying {
         }
     }
 
-    /// The next row of the content comes. It is laid into the grid, unless it is above or below the part.
+    /// Lays the next row of the content into the grid, unless it is above or below the part.
     fn show_row(&mut self, cells: &[Cell], grid: &mut Grid)
         requires whole { IsWhole cells.now }
         requires fits { length cells.now ≤ length self.old.spaces.items }
@@ -135,14 +138,16 @@ impl Laying {
         self.end_row(cells.len(), grid);
     }
 
-    /// The columns of these lines come, each as a row.
+    /// Lays the columns of these lines, each as a row.
     pub fn show_columns(&mut self, lines: &[CellRow], across: usize, grid: &mut Grid)
         requires inside { self.old.above ≡ 0 }
         requires room { HasRoom self.old grid.old }
         ensures passed { (self.new, grid.new)
-            ≡ fold passed (self.old, grid.old) (map (columns_from across (length self.old.spaces.items)) lines.now) }
+            ≡ fold passed (self.old, grid.old)
+            (map (columns_from across (length self.old.spaces.items)) lines.now) }
         ensures held { All (IsHeld (length self.old.spaces.items))
-            (shown_of self.old 0 (map (columns_from across (length self.old.spaces.items)) lines.now)) }
+            (shown_of self.old 0
+            (map (columns_from across (length self.old.spaces.items)) lines.now)) }
         ensures room { HasRoom self.new grid.new }
         ensures cols { columns grid.new ≡ columns grid.old }
     {
@@ -154,13 +159,15 @@ impl Laying {
         }
     }
 
-    /// The columns of a line come, as the next row.
+    /// Lays the columns of a line as the next row.
     fn show_cut(&mut self, line: &[Cell], across: usize, grid: &mut Grid)
         requires whole { IsWhole line.now }
         requires inside { self.old.row < self.old.end }
         requires room { HasRoom self.old grid.old }
         ensures laying { self.new ≡ record self.old { row = self.old.row + 1 } }
-        ensures laid { grid.new ≡ with_row self.old grid.old (columns_from across (length self.old.spaces.items) line.now) }
+        ensures laid { grid.new
+            ≡ with_row self.old grid.old
+            (columns_from across (length self.old.spaces.items) line.now) }
         ensures room { HasRoom self.new grid.new }
         ensures cols { columns grid.new ≡ columns grid.old }
     {
@@ -169,7 +176,7 @@ impl Laying {
         self.end_row(count, grid);
     }
 
-    /// The cells of a row are laid, and spaces behind them now.
+    /// Ends a row whose cells are laid: spaces are laid behind them now.
     fn end_row(&mut self, count: usize, grid: &mut Grid)
         requires inside { self.old.row < self.old.end }
         requires fits { count ≤ length self.old.spaces.items }
@@ -177,7 +184,8 @@ impl Laying {
         ensures laying { self.new ≡ record self.old { row = self.old.row + 1 } }
         ensures laid { grid.new
             ≡ slice_set grid.old self.old.row
-            (laid_at (row_at grid.old self.old.row) (self.old.col + count) (drop count self.old.spaces.items)) }
+            (laid_at (row_at grid.old self.old.row) (self.old.col + count)
+            (drop count self.old.spaces.items)) }
         ensures room { HasRoom self.new grid.new }
         ensures cols { columns grid.new ≡ columns grid.old }
     {
@@ -186,11 +194,12 @@ impl Laying {
         self.row += 1;
     }
 
-    /// No row comes any more: spaces are laid into those that are left.
+    /// Lays spaces into the rows that are left, where no row comes any more.
     pub fn show_spaces(&self, grid: &mut Grid)
         requires room { HasRoom self.now grid.old }
         ensures laid { grid.new
-            ≡ blitted grid.old (replicate (self.now.end - self.now.row) self.now.spaces.items) self.now.row self.now.col }
+            ≡ blitted grid.old (replicate (self.now.end - self.now.row) self.now.spaces.items)
+            self.now.row self.now.col }
         ensures cols { columns grid.new ≡ columns grid.old }
     {
         for at in 0..self.end - self.row {

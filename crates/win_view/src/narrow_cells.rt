@@ -6,7 +6,7 @@ ghost use Rattle.win_view.specs.Rows.{narrowed_cell};
 
 use cell_grid::Cell;
 
-/// A Lead as a row of one column can hold it.
+/// Returns a Lead as a row of one column can hold it.
 pub fn narrowed(lead: &Cell) -> Cell
     requires { IsLead lead.now }
     ensures value { result ∷ [] ≡ narrowed_cell lead.now }

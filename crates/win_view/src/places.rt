@@ -13,7 +13,7 @@ pub struct Place {
     pub col: usize,
 }
 
-/// The row of a line's cell among the line's rows, and its column there. It walks over the rows up to the cell.
+/// Returns the row of a line's cell among the line's rows, and its column there. It walks over the rows up to the cell.
 pub fn place_in_line(cells: &[Cell], cell: usize, width: usize) -> Place
     requires whole { IsWhole cells.now }
     requires cell { cell < length cells.now }

@@ -8,13 +8,14 @@ ghost use Rattle.win_view.specs.Rows.{AllNarrow, holdable, rows_of};
 use crate::first_rows::first_row;
 use cell_grid::Cell;
 
-/// How many rows of this width a line has: these cells, and behind them `more` cells of one column each, which need not be
-/// there. It walks over the rows of `cells`, whose every character may be wide, and reckons the others.
+/// Returns how many rows of this width a line has: these cells, and behind them `more` cells of one column each, which
+/// need not be there. It walks over the rows of `cells`, whose every character may be wide, and reckons the others.
 pub fn count_rows(cells: &[Cell], more: usize, width: u32) -> usize
     requires whole { IsWhole cells.now }
     requires width { 1 ≤ width }
     requires few { length cells.now + more < 2 ^ 63 }
-    ensures { (rest : List Cell) → AllNarrow rest → length rest ≡ more → result ≡ length (rows_of width (cells.now ++ rest)) }
+    ensures { (rest : List Cell) → AllNarrow rest → length rest ≡ more
+        → result ≡ length (rows_of width (cells.now ++ rest)) }
 {
     let width = width as usize;
     let mut rest = cells;
@@ -29,7 +30,7 @@ pub fn count_rows(cells: &[Cell], more: usize, width: u32) -> usize
     rows + rows_behind(rest, more, width)
 }
 
-/// How many rows more there are where these cells stand in the last one.
+/// Returns how many rows more there are where these cells stand in the last one.
 fn rows_behind(cells: &[Cell], more: usize, width: usize) -> usize
     requires width { 1 ≤ width }
     requires whole { IsWhole cells.now }

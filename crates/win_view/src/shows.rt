@@ -28,7 +28,9 @@ pub fn show(
     requires rows_fit { viewport.now.row + viewport.now.size.rows ≤ length grid.old }
     requires cols_fit { viewport.now.col + viewport.now.size.cols ≤ columns grid.old }
     ensures shows { OnOk result (grid.new
-        ≡ blitted grid.old (window_rows_with viewport.now.behind content.now viewport.now.size scroll) viewport.now.row viewport.now.col) }
+        ≡ blitted grid.old
+        (window_rows_with viewport.now.behind content.now viewport.now.size scroll)
+        viewport.now.row viewport.now.col) }
     ensures every { OnOk result (AllRows viewport.now.size.cols
         (window_rows_with viewport.now.behind content.now viewport.now.size scroll)) }
     ensures err { OnErr result (grid.new ≡ grid.old) }
@@ -50,8 +52,11 @@ pub fn show(
 fn show_wrapped(mut laying: Laying, lines: &[CellRow], down: u32, grid: &mut Grid)
     requires { HasRoom laying grid.old }
     ensures shows { grid.new
-        ≡ blitted grid.old (part_of laying (shown_of laying down (flat_map (rows_of (length laying.spaces.items)) lines.now))) laying.row laying.col }
-    ensures held { All (IsHeld (length laying.spaces.items)) (shown_of laying down (flat_map (rows_of (length laying.spaces.items)) lines.now)) }
+        ≡ blitted grid.old (part_of laying
+        (shown_of laying down (flat_map (rows_of (length laying.spaces.items)) lines.now)))
+        laying.row laying.col }
+    ensures held { All (IsHeld (length laying.spaces.items))
+        (shown_of laying down (flat_map (rows_of (length laying.spaces.items)) lines.now)) }
     ensures cols { columns grid.new ≡ columns grid.old }
 {
     laying.above = down;
@@ -63,8 +68,11 @@ fn show_wrapped(mut laying: Laying, lines: &[CellRow], down: u32, grid: &mut Gri
 fn show_cut(mut laying: Laying, lines: &[CellRow], across: usize, grid: &mut Grid)
     requires { HasRoom laying grid.old }
     ensures shows { grid.new
-        ≡ blitted grid.old (part_of laying (shown_of laying 0 (map (columns_from across (length laying.spaces.items)) lines.now))) laying.row laying.col }
-    ensures held { All (IsHeld (length laying.spaces.items)) (shown_of laying 0 (map (columns_from across (length laying.spaces.items)) lines.now)) }
+        ≡ blitted grid.old (part_of laying
+        (shown_of laying 0 (map (columns_from across (length laying.spaces.items)) lines.now)))
+        laying.row laying.col }
+    ensures held { All (IsHeld (length laying.spaces.items))
+        (shown_of laying 0 (map (columns_from across (length laying.spaces.items)) lines.now)) }
     ensures cols { columns grid.new ≡ columns grid.old }
 {
     laying.above = 0;

@@ -32,12 +32,12 @@ fn underlined() -> Attrs {
     }
 }
 
-// A row of bold characters, and plain ones behind them.
+/// Returns a row of bold characters, and plain ones behind them.
 fn row_of(alloc: Global, strong: &str, plain: &str) -> Result<CellRow, NoMemory> {
     row_over(alloc, strong, plain, Attrs::plain())
 }
 
-// A row of bold characters, and others with these attributes behind them.
+/// Returns a row of bold characters, and others with these attributes behind them.
 fn row_over(alloc: Global, strong: &str, others: &str, attrs: Attrs) -> Result<CellRow, NoMemory> {
     let fragments = [
         fragment(alloc, bold(), strong)?,
@@ -146,7 +146,7 @@ fn is_content(content: &Content) -> bool
     few < 1 << 31 && content.line < lines.len() && content.cell < lines[content.line].len()
 }
 
-// Lines of bold characters.
+/// Returns lines of bold characters.
 fn content_of(
     alloc: Global,
     lines: &[&str],
@@ -279,7 +279,7 @@ const SHOWN: [Shown; 13] = [
     (false, (0, 4), (1, 2), (0, 9), &[("", "  ")], (0, 0)),
 ];
 
-// What is shown over blanks, and over spaces with attributes.
+/// Asserts what is shown over blanks, and over spaces with attributes.
 fn assert_shown(
     rt: &(impl Abort + AllocGlobal),
     shown: &Shown,
@@ -350,7 +350,7 @@ const PARTS: [Part; 3] = [
     ),
 ];
 
-// A grid of five rows, each of three wide characters.
+/// Returns a grid of five rows, each of three wide characters.
 fn wide_grid(rt: &(impl Abort + AllocGlobal)) -> Result<Grid, Fail> {
     let wide = row_of(rt.alloc(), "", "中国人")?;
     let mut grid = Grid::blank(rt.alloc(), 5, 6)?;
@@ -361,7 +361,8 @@ fn wide_grid(rt: &(impl Abort + AllocGlobal)) -> Result<Grid, Fail> {
     Ok(grid)
 }
 
-// The part has three rows and four columns, and parts a wide character at either side, of which a blank is left.
+/// Asserts that the part has three rows and four columns, and parts a wide character at either side, of which a blank
+/// is left.
 fn assert_part(rt: &(impl Abort + AllocGlobal), part: &Part) -> Result<(), Fail> {
     let (wrap, lines, (down, across), wanted) = *part;
     let content = content_of(rt.alloc(), lines, 0, 0, wrap)?;

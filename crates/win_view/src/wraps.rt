@@ -27,7 +27,7 @@ pub fn wrap(alloc: Global, row: &CellRow, width: u32) -> Result<CellRows, NoMemo
     Ok(rows)
 }
 
-/// These cells as a row of this width holds them.
+/// Returns these cells as a row of this width holds them.
 fn held_row(alloc: Global, cells: &[Cell], width: usize) -> Result<CellRow, NoMemory>
     requires whole { IsWhole cells.now }
     requires width { 1 ≤ width }
