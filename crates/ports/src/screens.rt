@@ -39,7 +39,10 @@ impl Model for MemoryScreen {
 
     ghost Value = { Frames };
 
-    ghost view = { λ s. record { taken = map (λ frame. frame.items) s.frames.items; faults = s.failing } };
+    ghost view = { λ s. record {
+      taken = map (λ frame. frame.items) s.frames.items;
+      faults = s.failing;
+    } };
 }
 
 impl MemoryScreen {
@@ -104,7 +107,8 @@ impl Screen for MemoryScreen {
 
 /// Puts a copy of the frame behind the others.
 fn keep(frames: &mut Vec<Vec<u8>>, bytes: &[u8]) -> Result<(), AllocError>
-    ensures kept { OnOk result (map (λ f. f.items) frames.new.items ≡ map (λ f. f.items) frames.old.items ++ bytes.now ∷ []) }
+    ensures kept { OnOk result (map (λ f. f.items) frames.new.items
+        ≡ map (λ f. f.items) frames.old.items ++ bytes.now ∷ []) }
     ensures same { OnErr result (frames.new.items ≡ frames.old.items) }
 {
     let frame = Vec::from_slice(*frames.allocator(), bytes)?;

@@ -18,7 +18,8 @@ pub trait Source {
         ensures fits { ReadsAtMost result into.new }
         ensures bytes { ReadConsumes (supply self.old).left (supply self.new).left result into.new }
         ensures cause { HasCause (supply self.old).faults (supply self.new).faults result }
-        ensures empty { CountsEmptyRead (supply self.old).empty_reads (supply self.new).empty_reads (length into.old) result };
+        ensures empty { CountsEmptyRead (supply self.old).empty_reads (supply self.new).empty_reads
+            (length into.old) result };
 }
 
 /// A source that gives the bytes that it was made with, as many in one read as there is room for.
@@ -36,7 +37,12 @@ impl Model for MemorySource {
 
     ghost Value = { Supply };
 
-    ghost view = { λ s. record { left = Some (drop s.at s.bytes.items); faults = s.failing; empty_reads = s.empty_reads } };
+    ghost view = { λ s.
+        record {
+          left = Some (drop s.at s.bytes.items);
+          faults = s.failing;
+          empty_reads = s.empty_reads;
+        } };
 
     ghost invariant = { λ s. s.at ≤ length s.bytes.items };
 }

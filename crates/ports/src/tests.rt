@@ -4,7 +4,7 @@ use cell_grid::Size;
 use std::alloc::Global;
 use std::test::Fail;
 
-/// The call with this number alone fails.
+/// Lets the call with this number alone fail.
 fn failing_at(alloc: Global, number: u64) -> Result<FailingCalls, Fail> {
     Ok(FailingCalls::new(Vec::from_slice(alloc, &[number])?))
 }
@@ -121,5 +121,12 @@ fn tty(rt: HostRuntime) -> Result<(), Fail> {
         assert_eq!(rt; tty.entries(), entries, "where call {failing} fails");
         assert_eq!(rt; tty.faults() == 1, failing < 4);
     }
+    Ok(())
+}
+
+#[test]
+fn tells_a_failure(rt: HostRuntime) -> Result<(), Fail> {
+    let told = format!(in rt.alloc(); "{Failed}")?;
+    assert_eq!(rt; told.as_str(), "a call of the outside failed");
     Ok(())
 }

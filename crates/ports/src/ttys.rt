@@ -39,7 +39,8 @@ pub trait Tty {
     /// Makes the terminal raw, and returns its size and the present moment. Where it fails the mode is as before.
     fn enter(&mut self) -> Result<Entered, Failed>
         ensures raw { OnOk result (mode self.new ≡ told_mode (mode self.old) Raw) }
-        ensures entered { IfOk result (λ entered. entries self.new ≡ after_entry (entries self.old) entered) }
+        ensures entered { IfOk result (λ entered.
+            entries self.new ≡ after_entry (entries self.old) entered) }
         ensures same_mode { OnErr result (mode self.new ≡ mode self.old) }
         ensures same_entries { OnErr result (entries self.new ≡ entries self.old) }
         ensures cause { HasCause (faults self.old) (faults self.new) result };

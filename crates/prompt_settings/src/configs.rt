@@ -57,7 +57,8 @@ impl Model for Config {
 
     ghost use Rattle.prompt_settings.specs.Value.{IsSettings};
 
-    ghost invariant = { λ config. IsSettings (record { message = config.message; size = config.size }) };
+    ghost invariant = { λ config.
+        IsSettings (record { message = config.message; size = config.size }) };
 }
 
 impl Config {

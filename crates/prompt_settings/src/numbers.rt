@@ -23,7 +23,8 @@ pub(crate) fn read_number(text: &[char], most: u64) -> Option<u64>
 
 /// Tells whether there is a character, and a zero at the front stands alone.
 fn may_begin_number(text: &[char]) -> bool
-    ensures { IsTrue result ↔ ((0 < length text.now) × (slice_index text.now 0 ≡ 48 → length text.now ≡ 1)) }
+    ensures { IsTrue result
+        ↔ ((0 < length text.now) × (slice_index text.now 0 ≡ 48 → length text.now ≡ 1)) }
 {
     match text {
         [] => false,
