@@ -4,6 +4,7 @@ use Rattle.std.proofs.Math.Seq.{drop-append_seam}
 use Rattle.std.proofs.lemmas.List.{length-take-le, length-drop, take_all}
 use Rattle.std.proofs.lemmas.Bool.Decides.{nat_tests}
 use Rattle.std.proofs.lemmas.List.Elements.{All-append, All-cons, All-nil}
+use Rattle.std.proofs.lemmas.Bool.{and_parts}
 use Rattle.box_layout.specs.declared.areas.Area.{Area}
 use Rattle.box_layout.specs.declared.nodes.Float.{Float}
 use Rattle.box_layout.specs.declared.nodes.FloatPlace.{FloatPlace}
@@ -28,11 +29,6 @@ in_box box row col rows cols a below right e =
     let same : here ≡ a = cc in
     subst (IsInside box) same (record { above = omega arith; below = omega arith; left = omega arith; right = omega arith })
 
-both_true : (a b : Bool) → (a && b) ≡ true → (a ≡ true) × (b ≡ true)
-both_true true true e = (refl, refl)
-both_true true false e = cc
-both_true false b e = cc
-
 -- the rows of a float near a row, by what fits
 abbrev rows_by : Bool → Bool → ℕ → ℕ → ℕ → ℕ × ℕ
 rows_by fits more row below height = cond fits (row + 1, height) (cond more (row + 1, below) (row - min height row, min height row))
@@ -47,7 +43,7 @@ near_inside box row col pane a e =
     let rows = near_rows row (box.size.rows - 1 - row) pane.height.preferred in
     let found = area_in box rows.0 (min col (box.size.cols - near_cols box pane)) rows.1 (near_cols box pane) in
     let within : ((ltb row box.size.rows && ltb col box.size.cols) ≡ true) × (found ≡ Some a) = by_test _ found a e in
-    let places = both_true (ltb row box.size.rows) (ltb col box.size.cols) within.0 in
+    let places = and_parts (ltb row box.size.rows) (ltb col box.size.cols) within.0 in
     let row_in : row < box.size.rows = grind (arith, nat_tests, places.0) in
     let below = rows_within row (box.size.rows - 1 - row) pane.height.preferred (leb pane.height.preferred (box.size.rows - 1 - row)) (leb row (box.size.rows - 1 - row)) refl refl in
     in_box box rows.0 (min col (box.size.cols - near_cols box pane)) rows.1 (near_cols box pane) a (omega (arith, row_in, below)) (omega arith) within.1
@@ -56,7 +52,7 @@ top_right_inside : (placed : List PlacedFields) (box : Area) (pane : PaneFields)
 top_right_inside placed box pane a some e =
     let found = area_in box 0 (box.size.cols - pane.width.preferred) 1 pane.width.preferred in
     let within : ((leb pane.width.preferred box.size.cols && is_free placed box pane.width.preferred) ≡ true) × (found ≡ Some a) = by_test _ found a e in
-    let fits = both_true (leb pane.width.preferred box.size.cols) (is_free placed box pane.width.preferred) within.0 in
+    let fits = and_parts (leb pane.width.preferred box.size.cols) (is_free placed box pane.width.preferred) within.0 in
     let wide : pane.width.preferred ≤ box.size.cols = grind (arith, nat_tests, fits.0) in
     in_box box 0 (box.size.cols - pane.width.preferred) 1 pane.width.preferred a (omega arith) (omega arith) within.1
 

@@ -13,7 +13,7 @@ pub struct Area {
 }
 
 impl Area {
-    // All of a drawing.
+    /// Returns all of a drawing.
     pub(crate) fn whole(size: Size) -> Area
         ensures is { result ≡ whole size }
         ensures drawable { IsDrawable result }
@@ -26,7 +26,7 @@ impl Area {
         }
     }
 
-    // So many rows and columns from a place on, none where these are 0.
+    /// Returns so many rows and columns from a place on, none where these are 0.
     pub(crate) fn from(row: u32, col: u32, rows: u32, cols: u32) -> Option<Area>
         requires few_rows { rows ≤ 500 }
         requires few_cols { cols ≤ 1000 }
@@ -38,7 +38,7 @@ impl Area {
         }
     }
 
-    // How many columns, or rows, it has.
+    /// Returns how many columns, or rows, it has.
     pub(crate) fn room(&self, across: bool) -> u32
         ensures value { result ≡ room_of across self.now }
         ensures few { result ≤ 1000 }
@@ -50,12 +50,13 @@ impl Area {
         }
     }
 
-    // The part that begins after so many of its columns, or rows, and has so many of them; none
-    // where these are 0.
+    /// Returns the part that begins after so many of its columns, or rows, and has so many of them; none where these
+    /// are 0.
     pub(crate) fn part(&self, across: bool, before: u32, count: u32) -> Option<Area>
         requires drawable { IsDrawable self.now }
         requires room { before + count ≤ room_of across self.now }
-        ensures { result ≡ (if count == 0 then None else Some (part_of across self.now before count)) }
+        ensures { result
+            ≡ (if count == 0 then None else Some (part_of across self.now before count)) }
     {
         if across {
             Area::from(self.row, self.col + before, self.size.rows(), count)

@@ -15,7 +15,7 @@ pub(crate) struct Asked {
 }
 
 impl Asked {
-    // What a node asks for that stands in a split.
+    /// Tells what a node asks for that stands in a split.
     pub(crate) fn here(rows: Dimension, cols: Dimension) -> Asked
         ensures { result ≡ record { present = true; rows = rows; cols = cols } }
     {
@@ -26,7 +26,7 @@ impl Asked {
         }
     }
 
-    // What a node asks for that is not there.
+    /// Tells what a node asks for that is not there.
     pub(crate) fn absent() -> Asked
         ensures { result ≡ record { present = false; rows = sum_of []; cols = sum_of [] } }
     {
@@ -37,7 +37,7 @@ impl Asked {
         }
     }
 
-    // The columns, or rows, that it asks for.
+    /// Returns the columns, or rows, that it asks for.
     pub(crate) fn along(&self, across: bool) -> Dimension
         ensures { result ≡ asked_along across self.now }
     {

@@ -1,5 +1,5 @@
 //! Where the windows of a layout stand.
-ghost use Rattle.std.specs.Prelude.{◌≡◌, ◌+◌, ◌≤◌, [], flat_map, filter, zip, length, sum, IfOk, IfSome};
+ghost use Rattle.std.specs.Prelude.{◌≡◌, ◌+◌, ◌≤◌, flat_map, filter, zip, length, sum, IfOk, IfSome};
 ghost use Rattle.box_layout.specs.Adding.{Adds, PartGives};
 ghost use Rattle.box_layout.specs.Areas.{whole, room_of, IsDrawable};
 ghost use Rattle.box_layout.specs.Asked.{asked};
@@ -18,15 +18,15 @@ use cell_grid::{NoMemory, Size};
 use layout_dims::divide;
 use std::alloc::Global;
 
-/// Where the windows of a layout stand in a drawing of this size, in the order in which they are
-/// painted; none where a split has too little room for what its children need at least.
+/// Tells where the windows of a layout stand in a drawing of this size, in the order in which they are painted; none
+/// where a split has too little room for what its children need at least.
 ///
-/// A window takes its whole area. A split divides its area among the children that are there, by
-/// what they ask for; `done` says that none grows beyond what it asks for by preference. A child
-/// of size 0 gives nothing, whatever is in it. A box gives what is in it and then its floats.
+/// A window takes its whole area. A split divides its area among the children that are there, by what they ask for;
+/// `done` says that none grows beyond what it asks for by preference. A child of size 0 gives nothing, whatever is in
+/// it. A box gives what is in it and then its floats.
 ///
-/// The layout is walked once. This walk lists its nodes with what they ask for, and the areas are
-/// found by going over the list; a part that is not there is never looked at.
+/// The layout is walked once. This walk lists its nodes with what they ask for, and the areas are found by going over
+/// the list; a part that is not there is never looked at.
 pub fn place<'a>(
     alloc: Global,
     node: &'a Node,
@@ -56,8 +56,8 @@ pub(crate) struct Placing {
 }
 
 impl Placing {
-    // Adds the panes of a node, which stands in the list before these. False says that a division
-    // inside has too little room.
+    /// Adds the panes of a node, which stands in the list before these. False says that a division
+    /// inside has too little room.
     #[cycle(placing)]
     pub(crate) fn place_in<'a>(
         &self,
@@ -113,8 +113,8 @@ impl Placing {
         }
     }
 
-    // Adds the panes of the children of a split, which stand side by side, or else one below
-    // another.
+    /// Adds the panes of the children of a split, which stand side by side, or else one below
+    /// another.
     #[cycle(placing)]
     fn place_split<'a>(
         &self,
@@ -128,7 +128,8 @@ impl Placing {
         requires few_inside { EachChild Node HasFewChildren (tops children.now) }
         requires drawable { IsDrawable area.now }
         ensures { IfOk result (λ fits.
-            Adds (SplitGives Node (λ x. x) (Boxes self.now.done) self.now.done across (tops children.now) area.now)
+            Adds (SplitGives Node (λ x. x) (Boxes self.now.done) self.now.done across
+            (tops children.now) area.now)
             area.now placed.old placed.new fits) }
     {
         let parts = parts_of(self.alloc, children, across)?;
@@ -142,7 +143,7 @@ impl Placing {
         }
     }
 
-    // Adds the panes of the children of a split that stand in it, which have these sizes.
+    /// Adds the panes of the children of a split that stand in it, which have these sizes.
     #[cycle(placing)]
     fn place_parts<'a>(
         &self,
@@ -155,7 +156,8 @@ impl Placing {
         requires listing { IsListing children.now }
         requires few_inside { EachChild Node HasFewChildren (tops children.now) }
         requires drawable { IsDrawable area.now }
-        requires one_each { length sizes.now ≡ length (filter (λ x. (asked x).present) (tops children.now)) }
+        requires one_each { length sizes.now
+            ≡ length (filter (λ x. (asked x).present) (tops children.now)) }
         requires room { sum sizes.now ≤ room_of across area.now }
         ensures { IfOk result (λ fits.
             Adds (InTurn Node (Boxes self.now.done) across area.now
@@ -181,7 +183,7 @@ impl Placing {
         Ok(true)
     }
 
-    // Adds the panes of a child, which stands in the list before these, in its part of an area.
+    /// Adds the panes of a child, which stands in the list before these, in its part of an area.
     #[cycle(placing)]
     fn place_part<'a>(
         &self,

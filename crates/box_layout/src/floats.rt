@@ -1,10 +1,10 @@
 //! Where floats stand over what is in their box.
-ghost use Rattle.std.specs.Prelude.{◌≡◌, ◌+◌, ◌≤◌, ◌++◌, ◌∷◌, [], drop, take, length, None, Some, IfOk, OnOk, OnErr};
+ghost use Rattle.std.specs.Prelude.{◌≡◌, ◌+◌, ◌≤◌, ◌++◌, drop, take, length, None, Some, IfOk, OnOk};
 ghost use Rattle.std.specs.List.{list_all};
 ghost use Rattle.cell_grid.specs.Cell.{blank, same_cell};
 ghost use Rattle.box_layout.specs.Areas.{IsDrawable};
 ghost use Rattle.box_layout.specs.Floats.{near_rows, near_area, is_from, is_free, top_right_area, float_area, with_floats};
-ghost use Rattle.box_layout.specs.Placed.{AllInside, placed_at};
+ghost use Rattle.box_layout.specs.Placed.{AllInside};
 
 use crate::areas::Area;
 use crate::focus::cursor_of_all;
@@ -13,8 +13,8 @@ use crate::{Float, FloatPlace, Pane, Placed, PlacedList};
 use cell_grid::{Cell, NoMemory};
 use std::alloc::Global;
 
-// Adds the panes of the floats of a box that have a place, each over those behind a place of the
-// list, which are those of the box.
+/// Adds the panes of the floats of a box that have a place, each over those behind a place of the
+/// list, which are those of the box.
 pub(crate) fn place_floats<'a>(
     alloc: Global,
     floats: &'a [Float],
@@ -25,7 +25,8 @@ pub(crate) fn place_floats<'a>(
     requires within { first ≤ length placed.old }
     requires inside { AllInside area.now (drop first placed.old) }
     requires drawable { IsDrawable area.now }
-    ensures { OnOk result (placed.new ≡ take first placed.old ++ with_floats area.now (drop first placed.old) floats.now) }
+    ensures { OnOk result (placed.new
+        ≡ take first placed.old ++ with_floats area.now (drop first placed.old) floats.now) }
 {
     for float in floats {
         let pane: &Pane = &float.pane;
@@ -43,7 +44,7 @@ pub(crate) fn place_floats<'a>(
     Ok(())
 }
 
-// The area of a float, over what stands in its box before it.
+/// Returns the area of a float, over what stands in its box before it.
 fn float_area(
     alloc: Global,
     under: &[Placed],
@@ -61,7 +62,7 @@ fn float_area(
     }
 }
 
-// The area of a float near a place of a box, if the place is in the box.
+/// Returns the area of a float near a place of a box, if the place is in the box.
 fn near_area(area: &Area, row: u32, col: u32, pane: &Pane) -> Option<Area>
     requires drawable { IsDrawable area.now }
     ensures { result ≡ near_area area.now row col pane.now }
@@ -83,7 +84,7 @@ fn near_area(area: &Area, row: u32, col: u32, pane: &Pane) -> Option<Area>
     )
 }
 
-// The first row and the height of a float near a row with so many rows below it.
+/// Returns the first row and the height of a float near a row with so many rows below it.
 fn near_rows(row: u32, below: u32, height: u32) -> (u32, u32)
     requires few { row + below ≤ 500 }
     ensures { result ≡ near_rows row below height }
@@ -97,7 +98,7 @@ fn near_rows(row: u32, below: u32, height: u32) -> (u32, u32)
     (row - height.min(row), height.min(row))
 }
 
-// The area of a float at the right end of a box's first row, if it fits and is free.
+/// Returns the area of a float at the right end of a box's first row, if it fits and is free.
 fn top_right_area(
     alloc: Global,
     under: &[Placed],
@@ -116,7 +117,7 @@ fn top_right_area(
     Ok(Area::from(area.row, area.col + (cols - width), 1, width))
 }
 
-// Whether the last columns of a box's first row show blanks alone, and not the cursor.
+/// Tells whether the last columns of a box's first row show blanks alone, and not the cursor.
 fn is_free(alloc: Global, under: &[Placed], area: &Area, count: u32) -> Result<bool, NoMemory>
     requires inside { AllInside area.now under.now }
     requires drawable { IsDrawable area.now }
@@ -129,7 +130,7 @@ fn is_free(alloc: Global, under: &[Placed], area: &Area, count: u32) -> Result<b
     Ok(blanks && !is_from(cursor_of_all(under), area.row, area.col + first, count))
 }
 
-// Whether the cells behind the first ones are blanks.
+/// Tells whether the cells behind the first ones are blanks.
 fn are_blank(cells: &[Cell], first: usize) -> bool
     ensures { result ≡ list_all (λ cell. same_cell cell blank) (drop first cells.now) }
 {
@@ -137,7 +138,7 @@ fn are_blank(cells: &[Cell], first: usize) -> bool
     cells.iter().skip(first).all(|cell| *cell == blank)
 }
 
-// Whether a cursor stands in a row from a column on.
+/// Tells whether a cursor stands in a row from a column on.
 fn is_from(cursor: Option<(u32, u32)>, row: u32, col: u32, count: u32) -> bool
     requires few { col + count ≤ 1000 }
     ensures { result ≡ is_from cursor row col count }

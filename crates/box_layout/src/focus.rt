@@ -6,7 +6,7 @@ ghost use Rattle.box_layout.specs.Placed.{AllOnScreen};
 use crate::{Pane, Placed};
 use win_view::seen_cursor;
 
-/// The row and the column of the cursor of the last window with the focus.
+/// Returns the row and the column of the cursor of the last window with the focus.
 pub fn cursor_of_all(placed: &[Placed]) -> Option<(u32, u32)>
     requires { AllOnScreen placed.now }
     ensures { result ≡ cursor placed.now }
@@ -21,7 +21,7 @@ pub fn cursor_of_all(placed: &[Placed]) -> Option<(u32, u32)>
     place
 }
 
-/// The row and the column of a window's cursor.
+/// Returns the row and the column of a window's cursor.
 fn cursor_of(placed: &Placed) -> (u32, u32)
     requires row { placed.now.row ≤ 1000 }
     requires col { placed.now.col ≤ 1000 }

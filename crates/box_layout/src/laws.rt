@@ -1,5 +1,5 @@
 //! What the division of a split's area means for its children, and that a layout has one placing, inside its area, as laws over the definitions. The functions do nothing.
-ghost use Rattle.std.specs.Prelude.{◌≡◌, ◌↔◌, ℕ, ◌+◌, ◌<◌, ◌≤◌, Bool, List, length, sum, slice_get, count_by, All, Option, Some, if◌then◌else◌};
+ghost use Rattle.std.specs.Prelude.{◌≡◌, ◌↔◌, ℕ, ◌+◌, ◌≤◌, Bool, List, sum, slice_get, count_by, All, Option, Some, if◌then◌else◌};
 ghost use Rattle.layout_dims.specs.Division.{Division, caps_of};
 ghost use Rattle.layout_dims.specs.Numbers.{Numbers};
 ghost use Rattle.box_layout.specs.declared.areas.Area.{Area};
@@ -36,7 +36,8 @@ pub fn parts_cover_each_place_once()
 pub fn parts_fill_the_area()
     ensures { (across done : Bool) (area : Area) (dims : List Numbers) (sizes : List ℕ)
         → Division dims (room_of across area) done sizes
-        → ((part_of across area 0 (sum sizes) ≡ area) ↔ (room_of across area ≤ sum (caps_of done dims))) }
+        → ((part_of across area 0 (sum sizes) ≡ area)
+        ↔ (room_of across area ≤ sum (caps_of done dims))) }
 {}
 
 /// A layout has one placing in an area: the definition leaves no choice.

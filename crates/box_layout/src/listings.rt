@@ -1,6 +1,5 @@
 //! The nodes of a layout in a list, which one walk of the layout makes.
-ghost use Rattle.std.specs.Prelude.{◌≡◌, ◌++◌, ◌∷◌, ◌+◌, ◌≤◌, true, false, map, flat_map, filter, length, IfOk, OnOk};
-ghost use Rattle.layout_dims.specs.Numbers.{Numbers};
+ghost use Rattle.std.specs.Prelude.{◌≡◌, ◌++◌, ◌+◌, ◌≤◌, true, false, map, flat_map, filter, length, IfOk, OnOk};
 ghost use Rattle.box_layout.specs.Asked.{asked, wanted};
 ghost use Rattle.box_layout.specs.Listing.{inside, listing, tops, IsFirst, IsListing};
 
@@ -32,7 +31,7 @@ impl<'a> Model for ListedNode<'a> {
     ghost coded = { Prim.hlevel (codes, nodes.the_row.coded) };
 }
 
-// The first node of a list and the nodes inside it.
+/// Returns the first node of a list and the nodes inside it.
 pub(crate) fn first_of<'m, 'a>(
     listed: &'m [ListedNode<'a>],
 ) -> (&'m ListedNode<'a>, &'m [ListedNode<'a>])
@@ -45,7 +44,7 @@ pub(crate) fn first_of<'m, 'a>(
     (first, inner)
 }
 
-// What the nodes of a list ask for that stand in the split around them.
+/// Tells what the nodes of a list ask for that stand in the split around them.
 pub(crate) fn parts_of(
     alloc: Global,
     listed: &[ListedNode],
@@ -68,7 +67,7 @@ pub(crate) fn parts_of(
     Ok(parts)
 }
 
-// Adds a node and the nodes inside it.
+/// Adds a node and the nodes inside it.
 #[cycle(listing)]
 fn list_node<'a>(
     alloc: Global,
@@ -89,14 +88,15 @@ fn list_node<'a>(
     Ok(())
 }
 
-// Adds the nodes inside a node, and tells what it asks for.
+/// Adds the nodes inside a node, and tells what it asks for.
 #[cycle(listing)]
 fn list_inner<'a>(
     alloc: Global,
     node: &'a Node,
     listed: &mut Vec<ListedNode<'a>>,
 ) -> Result<Asked, NoMemory>
-    ensures listed { OnOk result (listed.new.items ≡ listed.old.items ++ flat_map listing (inside node.now)) }
+    ensures listed { OnOk result (listed.new.items
+        ≡ listed.old.items ++ flat_map listing (inside node.now)) }
     ensures asked { IfOk result (λ own. own ≡ asked node.now) }
 {
     let first = listed.len();
@@ -135,7 +135,7 @@ fn list_inner<'a>(
     }
 }
 
-// Adds the children of a split and the nodes inside them.
+/// Adds the children of a split and the nodes inside them.
 #[cycle(listing)]
 fn list_all<'a>(
     alloc: Global,
@@ -150,7 +150,7 @@ fn list_all<'a>(
     Ok(())
 }
 
-// The nodes of a layout, in one walk.
+/// Returns the nodes of a layout, in one walk.
 pub(crate) fn listing_of<'a>(alloc: Global, node: &'a Node) -> Result<Vec<ListedNode<'a>>, NoMemory>
     ensures { IfOk result (λ listed. listed.items ≡ listing node.now) }
 {
@@ -159,10 +159,10 @@ pub(crate) fn listing_of<'a>(alloc: Global, node: &'a Node) -> Result<Vec<Listed
     Ok(listed)
 }
 
-/// The columns, or rows, that a node asks for.
+/// Returns the columns, or rows, that a node asks for.
 ///
-/// A window asks for what it says. A split asks for the sum of what its children ask for along it
-/// and for the largest across it; children that are not there count for nothing.
+/// A window asks for what it says. A split asks for the sum of what its children ask for along it and for the largest
+/// across it; children that are not there count for nothing.
 pub fn preferred(alloc: Global, node: &Node, across: bool) -> Result<Dimension, NoMemory>
     ensures { IfOk result (λ d. d ≡ wanted across node.now) }
 {

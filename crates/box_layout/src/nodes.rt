@@ -30,7 +30,15 @@ impl Model for Pane {
 
     ghost Value = { PaneFields };
 
-    ghost view = { λ p. record { content = p.content; scroll = p.scroll; width = p.width; height = p.height; attrs = p.attrs; focus = p.focus } };
+    ghost view = { λ p.
+        record {
+          content = p.content;
+          scroll = p.scroll;
+          width = p.width;
+          height = p.height;
+          attrs = p.attrs;
+          focus = p.focus;
+        } };
 
     ghost invariant = { λ p. IsContent p.content };
 }
@@ -72,7 +80,7 @@ pub enum Node {
 }
 
 impl Node {
-    /// Whether each split has at most 1,000 children, so that its room can be divided.
+    /// Tells whether each split has at most 1,000 children, so that its room can be divided.
     #[cycle(counting)]
     pub fn has_few_children(&self) -> bool
         ensures { IsTrue result ↔ HasFewChildren self.now }
@@ -86,14 +94,14 @@ impl Node {
         }
     }
 
-    /// A part that is there only where the condition holds.
+    /// Returns a part that is there only where the condition holds.
     pub fn when(alloc: Global, shown: bool, inner: Node) -> Result<Node, NoMemory>
         ensures { IfOk result (λ node. node ≡ Node.When shown inner) }
     {
         Ok(Node::When(shown, Boxed::new(alloc, inner)?))
     }
 
-    /// A part with floats over it, the later ones over the earlier.
+    /// Returns a part with floats over it, the later ones over the earlier.
     pub fn float_box(alloc: Global, inner: Node, floats: Floats) -> Result<Node, NoMemory>
         ensures { IfOk result (λ node. node ≡ Node.FloatBox inner floats) }
     {
@@ -101,10 +109,11 @@ impl Node {
     }
 }
 
-// Whether there are at most 1,000 children, and so in each split inside them.
+/// Tells whether there are at most 1,000 children, and so in each split inside them.
 #[cycle(counting)]
 fn have_few_children(children: &[Node]) -> bool
-    ensures { IsTrue result ↔ ((length children.now ≤ 1000) × EachChild Node HasFewChildren children.now) }
+    ensures { IsTrue result
+        ↔ ((length children.now ≤ 1000) × EachChild Node HasFewChildren children.now) }
 {
     for child in children {
         if !child.has_few_children() {

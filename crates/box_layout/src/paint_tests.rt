@@ -125,7 +125,7 @@ fn panes_of(rt: &(impl Abort + AllocGlobal), windows: &[Window]) -> Result<Vec<P
     Ok(panes)
 }
 
-// Each at its place, and at the scroll of the case.
+/// Returns each window at its place, and at the scroll of the case.
 fn placed_in<'a>(
     rt: &(impl Abort + AllocGlobal),
     windows: &[Window],
@@ -181,7 +181,7 @@ fn assert_painted(rt: &(impl Abort + AllocGlobal), case: &Case) -> Result<(), Fa
     Ok(())
 }
 
-// What the first row of an area shows, where all windows are inside it.
+/// Asserts what the first row of an area shows, where all windows are inside it.
 fn assert_row(
     rt: &(impl Abort + AllocGlobal),
     windows: &[Window],

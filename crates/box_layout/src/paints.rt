@@ -25,7 +25,7 @@ pub fn paint(alloc: Global, placed: &PlacedList, size: Size) -> Result<Drawing, 
     Ok(Drawing { grid, row, col })
 }
 
-/// The grid of a drawing of this size that shows these windows.
+/// Returns the grid of a drawing of this size that shows these windows.
 fn paint_all(alloc: Global, placed: &[Placed], size: Size) -> Result<Grid, NoMemory>
     requires { AllInside (whole size) placed.now }
     ensures { IfOk result (λ grid. grid ≡ drawn_rows placed.now size) }
@@ -53,7 +53,8 @@ pub fn paint_over(
     requires inside { IsInside area.now (area_of placed.now) }
     requires rows { length grid.old ≡ area.now.size.rows }
     requires cols { columns grid.old ≡ area.now.size.cols }
-    ensures paints { OnOk result ((before : List PlacedFields) → grid.old ≡ area_rows before area.now
+    ensures paints { OnOk result ((before : List PlacedFields)
+        → grid.old ≡ area_rows before area.now
         → grid.new ≡ area_rows (before ++ placed.now ∷ []) area.now) }
     ensures rows { length grid.new ≡ length grid.old }
     ensures cols { columns grid.new ≡ columns grid.old }

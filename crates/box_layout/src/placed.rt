@@ -22,7 +22,8 @@ impl<'a> Model for Placed<'a> {
 
     ghost Value = { PlacedFields };
 
-    ghost view = { λ p. record { pane = p.pane.now; scroll = p.scroll; row = p.row; col = p.col; size = p.size } };
+    ghost view = { λ p.
+        record { pane = p.pane.now; scroll = p.scroll; row = p.row; col = p.col; size = p.size } };
 }
 
 impl<'a> Placed<'a> {

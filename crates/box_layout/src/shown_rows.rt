@@ -1,8 +1,7 @@
 //! One row of what windows show at their places.
-ghost use Rattle.std.specs.Prelude.{◌≡◌, [], ◌∷◌, IfOk, length};
-ghost use Rattle.box_layout.specs.Areas.{IsInside};
+ghost use Rattle.std.specs.Prelude.{◌≡◌, [], ◌∷◌, IfOk};
 ghost use Rattle.box_layout.specs.Painting.{shown_cells};
-ghost use Rattle.box_layout.specs.Placed.{AllInside, area_of};
+ghost use Rattle.box_layout.specs.Placed.{AllInside};
 
 use crate::Placed;
 use crate::areas::Area;
@@ -10,8 +9,8 @@ use crate::paints::paint_over;
 use cell_grid::{Grid, NoMemory, Size};
 use std::alloc::Global;
 
-/// The first row of what an area shows, as a grid of one row. A window inside the area that is on this row begins there, so one
-/// row of it is shown: the first row of a window is the same whatever the window's height.
+/// Returns the first row of what an area shows, as a grid of one row. A window inside the area that is on this row
+/// begins there, so one row of it is shown: the first row of a window is the same whatever the window's height.
 pub fn shown_row(alloc: Global, placed: &[Placed], area: &Area) -> Result<Grid, NoMemory>
     requires { AllInside area.now placed.now }
     ensures { IfOk result (λ grid. grid
@@ -39,7 +38,7 @@ pub fn shown_row(alloc: Global, placed: &[Placed], area: &Area) -> Result<Grid, 
     Ok(grid)
 }
 
-/// One row of as many columns.
+/// Returns one row of as many columns.
 fn one_row(size: &Size) -> Size
     ensures { result ≡ record { rows = 1; cols = size.now.cols } }
 {

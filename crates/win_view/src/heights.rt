@@ -1,5 +1,5 @@
 //! How many rows a content has.
-ghost use Rattle.std.specs.Prelude.{◌≡◌, ℕ, ◌+◌, ◌<◌, ◌≤◌, ◌^◌, List, length, sum_by, flat_map};
+ghost use Rattle.std.specs.Prelude.{◌≡◌, ◌+◌, ◌<◌, ◌≤◌, ◌^◌, length, sum_by, flat_map};
 ghost use Rattle.win_view.specs.Contents.{IsContent, content_rows};
 ghost use Rattle.win_view.specs.Rows.{rows_of};
 

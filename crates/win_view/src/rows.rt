@@ -1,8 +1,7 @@
 //! The rows of a line.
-ghost use Rattle.std.specs.Prelude.{◌≡◌, ℕ, ◌+◌, ◌<◌, ◌≤◌, ◌^◌, ◌++◌, List, length};
+ghost use Rattle.std.specs.Prelude.{◌≡◌, ◌+◌, ◌<◌, ◌≤◌, ◌^◌, ◌++◌, List, length};
 ghost use Rattle.cell_grid.specs.declared.cell.Cell.{Cell};
 ghost use Rattle.cell_grid.specs.Row.{IsWhole};
-ghost use Rattle.win_view.specs.FirstRow.{IsFirstRow};
 ghost use Rattle.win_view.specs.Rows.{AllNarrow, holdable, rows_of};
 
 use crate::first_rows::first_row;

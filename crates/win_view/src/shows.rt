@@ -1,5 +1,5 @@
 //! The content of a window, shown in a part of a grid.
-ghost use Rattle.std.specs.Prelude.{◌≡◌, ◌+◌, ◌≤◌, OnErr, OnOk, drop, flat_map, length, map};
+ghost use Rattle.std.specs.Prelude.{◌≡◌, ◌+◌, ◌≤◌, OnErr, OnOk, flat_map, length, map};
 ghost use Rattle.std.specs.List.{All};
 ghost use Rattle.cell_grid.specs.Grid.{AllRows, blitted, columns};
 ghost use Rattle.win_view.specs.Contents.{IsContent};
