@@ -1,12 +1,12 @@
 -- A binding whose keys do not agree with those that are held changes nothing of what was found.
 use Prim.Native.Nat.{zero, suc}
-use Rattle.std.proofs.Common.{◌≡◌, ℕ, Bool, true, false, ◌&&◌, List, [], ◌∷◌, ◌++◌, length, take, refl, sym, ◌∙◌, ⊎_elim, get_or, ◌+◌, ◌<◌, subst, nat_lt}
-use Rattle.std.proofs.lemmas.Bool.{cases_Bool}
+use Rattle.std.proofs.Common.{◌≡◌, ℕ, Bool, true, false, ◌&&◌, List, [], ◌∷◌, ◌++◌, length, take, refl, sym, ⊎_elim, get_or, ◌+◌, ◌<◌, subst, nat_lt}
+use Rattle.std.proofs.lemmas.Bool.{cases_Bool, and_right}
 use Rattle.key_names.specs.declared.key.Key.{Key}
 use Rattle.key_proc.specs.declared.facts.Fact.{Fact}
 use Rattle.key_proc.specs.declared.bindings.Binding.{Binding}
 use Rattle.key_proc.specs.declared.choices.Found.{Found}
-use Rattle.key_proc.specs.Matching.{matches_key, matches, begins, agrees}
+use Rattle.key_proc.specs.Matching.{matches_key, matches, agrees}
 use Rattle.key_proc.specs.Filters.{holds}
 use Rattle.key_proc.specs.Firing.{active, matching, eager_matching, longer}
 use Rattle.key_proc.specs.Choices.{choice_of, IsFound}
@@ -15,10 +15,6 @@ use Rattle.key_proc.proofs.Walk.{best-step, any-same, active-more, active-same}
 both_false : (a p q : Bool) → (a && p) ≡ false → (p ≡ false → q ≡ false) → (a && q) ≡ false
 both_false true p q e to = to e
 both_false false p q e to = refl
-
-second_false : (a q : Bool) → q ≡ false → (a && q) ≡ false
-second_false true q e = e
-second_false false q e = refl
 
 matches-front : (bound keys : List Key) (n : ℕ) → agrees bound keys ≡ false → matches bound (take n keys) ≡ false
 matches-front [] keys n e = absurd cc
@@ -42,8 +38,8 @@ begins-front (first ∷ bound) (key ∷ keys) e =
 -- one more binding whose keys do not agree
 unlike : (seen : List Binding) (keys : List Key) (found : Found) (b : Binding) → agrees b.keys keys ≡ false → IsFound seen keys found → IsFound (seen ++ b ∷ []) keys found
 unlike seen keys found b e is = record {
-  eager = best-step (eager_matching keys) seen b found.eager found.eager false (choice_of b) refl (sym (second_false b.eager (matches b.keys keys) (matches-all b.keys keys e))) refl is.eager;
-  longer = any-same (longer keys) seen b found.longer (second_false (nat_lt (length keys) (length b.keys)) (matches (take (length keys) b.keys) keys) (begins-front b.keys keys e)) is.longer;
+  eager = best-step (eager_matching keys) seen b found.eager found.eager false (choice_of b) refl (sym (and_right b.eager (matches b.keys keys) (matches-all b.keys keys e))) refl is.eager;
+  longer = any-same (longer keys) seen b found.longer (and_right (nat_lt (length keys) (length b.keys)) (matches (take (length keys) b.keys) keys) (begins-front b.keys keys e)) is.longer;
   one = best-step (matching (take 1 keys)) seen b found.one found.one false (choice_of b) refl (sym (matches-front b.keys keys 1 e)) refl is.one;
   two = best-step (matching (take 2 keys)) seen b found.two found.two false (choice_of b) refl (sym (matches-front b.keys keys 2 e)) refl is.two;
   three = best-step (matching (take 3 keys)) seen b found.three found.three false (choice_of b) refl (sym (matches-front b.keys keys 3 e)) refl is.three;

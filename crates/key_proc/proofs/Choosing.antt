@@ -4,13 +4,9 @@ use Rattle.std.specs.List.{filter, list_all, slice_get}
 use Rattle.std.proofs.lemmas.List.{length-append}
 use Rattle.std.proofs.lemmas.List.Elements.{filter-append}
 use Rattle.std.proofs.lemmas.List.Folds.{list_all-append}
-use Rattle.std.proofs.lemmas.Bool.{leb-true, ltb-true, le-leb, lt-ltb, lt-leb, le-ltb, cases_lt}
+use Rattle.std.proofs.lemmas.Bool.{leb-true, ltb-true, le-leb, lt-ltb, lt-leb, le-ltb, cases_lt, and_parts}
 use Rattle.std.proofs.lemmas.Option.{slice_get-get_or}
 use Rattle.std.proofs.Math.Seq.{get_or-append_seam}
-
-and_both : (a b : Bool) → (a && b) ≡ true → (a ≡ true) × (b ≡ true)
-and_both true b e = (refl, e)
-and_both false b e = absurd cc
 
 and_false : (a : Bool) → (a && false) ≡ false
 and_false true = refl
@@ -19,13 +15,13 @@ and_false false = refl
 list_all-weaker : {X : Type 0} (p q : X → Bool) → ((x : X) → p x ≡ true → q x ≡ true) → (xs : List X) → list_all p xs ≡ true → list_all q xs ≡ true
 list_all-weaker p q to [] e = refl
 list_all-weaker p q to (x ∷ xs) e =
-    let both : (p x ≡ true) × (list_all p xs ≡ true) = and_both (p x) (list_all p xs) e in
+    let both : (p x ≡ true) × (list_all p xs ≡ true) = and_parts (p x) (list_all p xs) e in
     rw (to x both.0) (list_all-weaker p q to xs both.1)
 
 filter-none : {X : Type 0} (p q : X → Bool) → ((x : X) → q x ≡ true → p x ≡ false) → (xs : List X) → list_all q xs ≡ true → filter p xs ≡ []
 filter-none p q to [] e = refl
 filter-none p q to (x ∷ xs) e =
-    let both : (q x ≡ true) × (list_all q xs ≡ true) = and_both (q x) (list_all q xs) e in
+    let both : (q x ≡ true) × (list_all q xs ≡ true) = and_parts (q x) (list_all q xs) e in
     rw (to x both.0) (filter-none p q to xs both.1)
 
 -- the items than which none has a smaller rank

@@ -11,7 +11,6 @@ use Rattle.key_proc.specs.declared.bindings.Binding.{Binding}
 use Rattle.key_proc.specs.declared.held.Fired.{Fired}
 use Rattle.key_proc.specs.declared.held.Fired.TheVariants.{Fire, Dropped, Wait, Nothing}
 use Rattle.key_proc.specs.Filters.{holds}
-use Rattle.key_proc.specs.Matching.{matches}
 use Rattle.key_proc.specs.Sizes.{has_size, AllSized}
 use Rattle.key_proc.specs.Firing.{keys_of, active, longer, waiting, fires, fires_among, taken}
 use Rattle.key_proc.proofs.Flushing.{IsTaking, takes, takes-by}

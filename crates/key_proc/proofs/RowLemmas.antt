@@ -1,7 +1,6 @@
 -- Rows are bindings of one to three keys, and their filters hold by their tests.
-use Rattle.std.proofs.Common.{◌≡◌, Bool, true, false, not, ◌&&◌, List, [], ◌∷◌, map, refl, sym, ap, ◌∙◌}
+use Rattle.std.proofs.Common.{◌≡◌, Bool, true, not, ◌&&◌, List, [], ◌∷◌, map, refl, sym, ap, ◌∙◌}
 use Rattle.std.specs.List.{list_all}
-use Rattle.key_names.specs.declared.key.Key.{Key}
 use Rattle.key_proc.specs.declared.facts.Fact.{Fact}
 use Rattle.key_proc.specs.declared.filters.Filter.{Filter}
 use Rattle.key_proc.specs.declared.filters.Filter.TheVariants as filter

@@ -1,6 +1,5 @@
 -- What a contract sees of constant tables: the binding of each row.
-use Rattle.std.specs.Prelude.{ℕ, Bool, true, false, List, [], ◌∷◌, ◌&&◌, not}
-use Rattle.std.specs.List.{list_all}
+use Rattle.std.specs.Prelude.{ℕ, Bool, true, false, List, [], ◌∷◌, not}
 use Rattle.key_names.specs.declared.key.Key.{Key}
 use Rattle.key_proc.specs.declared.facts.Fact.{Fact}
 use Rattle.key_proc.specs.declared.bindings.Save.{Save}

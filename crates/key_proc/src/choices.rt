@@ -1,5 +1,5 @@
 //! The best bindings for the held keys, found in one walk over a table.
-ghost use Rattle.std.specs.Prelude.{◌≡◌, ◌≤◌, ◌++◌, [], ◌∷◌, ◌&&◌, List, take, length};
+ghost use Rattle.std.specs.Prelude.{◌≡◌, ◌≤◌, ◌++◌, [], ◌∷◌, ◌&&◌, List, take};
 ghost use Rattle.key_proc.specs.declared.bindings.Binding.{Binding};
 ghost use Rattle.key_proc.specs.Sizes.{AllSized};
 ghost use Rattle.key_proc.specs.Facts.{has};

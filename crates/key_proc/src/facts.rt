@@ -38,7 +38,7 @@ pub struct Facts {
 }
 
 impl Model for Facts {
-    ghost use Rattle.std.specs.Prelude.{◌≡◌, List, Bool, length};
+    ghost use Rattle.std.specs.Prelude.{◌≡◌, List, Bool};
 
     ghost Value = { List Bool };
 

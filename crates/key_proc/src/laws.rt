@@ -1,13 +1,13 @@
 //! What follows from the rules by which a binding fires. These functions do nothing: their contracts are the laws.
-ghost use Rattle.std.specs.Prelude.{◌≡◌, ◌≢◌, ◌≤◌, ◌<◌, ◌&&◌, ◌++◌, ◌∷◌, [], ℕ, List, Bool, false, true, length, not, take, drop};
-ghost use Rattle.std.specs.List.{list_any, list_all};
+ghost use Rattle.std.specs.Prelude.{◌≡◌, ◌≢◌, ◌≤◌, ◌++◌, ◌∷◌, [], ℕ, List, Bool, true, length, take};
+ghost use Rattle.std.specs.List.{list_all};
 ghost use Rattle.key_names.specs.declared.key.KeyPress.{KeyPress};
 ghost use Rattle.key_proc.specs.declared.facts.Fact.{Fact};
 ghost use Rattle.key_proc.specs.declared.bindings.Binding.{Binding};
 ghost use Rattle.key_proc.specs.declared.rows.FactTest.{FactTest};
 ghost use Rattle.key_proc.specs.Filters.{holds};
 ghost use Rattle.key_proc.specs.Rows.{all_filter, test_holds};
-ghost use Rattle.key_proc.specs.Firing.{keys_of, active, matching, eager_matching, longer, fire_on, fires};
+ghost use Rattle.key_proc.specs.Firing.{keys_of, active, matching, eager_matching, fire_on, fires};
 ghost use Rattle.key_proc.specs.Laws.{HasFewestAny, MayFire, NoneOnLonger, held_after};
 
 use crate::held::Fired;

@@ -1,5 +1,5 @@
 -- The classes that a sheet keeps have the attributes that its rules give them, whatever is asked.
-use Rattle.std.proofs.Common.{◌≡◌, ℕ, Bool, true, List, ap, sym, subst, ◌∙◌, Option, Some, None, inl, inr, Contains, IfSome, String, Global}
+use Rattle.std.proofs.Common.{◌≡◌, ℕ, Bool, List, ap, sym, subst, ◌∙◌, Option, Some, None, inl, inr, IfSome, String, Global}
 use Rattle.std.specs.Prelude.{string_bytes, string_eq, Result, Ok, Err, OnOk, OnErr}
 use Rattle.std.specs.Map.{lookup}
 use Rattle.std.specs.Str.{bytes_eq}

@@ -1,8 +1,8 @@
 -- Texts that are cut at a separator, and texts that are joined with one.
 use Rattle.std.proofs.Common.{◌≡◌, ℕ, ◌<◌, Bool, true, false, List, [], ◌∷◌, ◌++◌, map, length, Option, Some, None, Bor, refl, sym, ap, ◌∙◌, arith, append_assoc}
-use Rattle.std.specs.Prelude.{◌==◌, ◌&&◌, ◌≢◌, not, All, MatchOption}
+use Rattle.std.specs.Prelude.{◌==◌, ◌≢◌, not, All, MatchOption}
 use Rattle.std.specs.List.{AllByRecursion, list_all, slice_split, join_with_byte}
-use Rattle.std.proofs.lemmas.Bool.{and_parts, not-true, ne_eqb, eq-eqb, eqb-false}
+use Rattle.std.proofs.lemmas.Bool.{and_parts, not-true, ne_eqb, eq-eqb, eqb-false, and_from}
 use Rattle.std.proofs.lemmas.List.{map-append}
 use Rattle.std.proofs.lemmas.List.Elements.{All-from_recursion, All-weaker}
 use Rattle.std.proofs.lemmas.List.Folds.{list_all-append}
@@ -35,9 +35,6 @@ unequal-all c text none = All-weaker (λ b. b ≢ c) (λ b. (b == c) ≡ false) 
 
 pub lacks-unequal : (c : ℕ) (text : List ℕ) → lacks c text ≡ true → All (λ b. b ≢ c) text
 lacks-unequal c text none = All-weaker (λ b. (b == c) ≡ false) (λ b. b ≢ c) (λ b apart. eqb-false b c apart) text (lacks-all c text none)
-
-pub and_from : (a b : Bool) → a ≡ true → b ≡ true → (a && b) ≡ true
-and_from a b p q = ap (λ x. x && b) p ∙ q
 
 pub all-append : (test : ℕ → Bool) (xs ys : List ℕ) → list_all test xs ≡ true → list_all test ys ≡ true → list_all test (xs ++ ys) ≡ true
 all-append test xs ys p q = list_all-append test xs ys ∙ and_from (list_all test xs) (list_all test ys) p q

@@ -7,6 +7,7 @@ use Rattle.std.specs.Str.{bytes_eq}
 use Rattle.std.specs.Char.{digit_char}
 use Rattle.std.proofs.lemmas.List.{length-map, append-nil}
 use Rattle.std.proofs.lemmas.List.Splits.{join_with_byte-slice_split}
+use Rattle.std.proofs.lemmas.Bool.{and_from}
 use Rattle.cell_grid.specs.declared.attrs.Colour.{Colour}
 use Rattle.cell_grid.specs.declared.attrs.Colour.TheVariants.{Ansi, Rgb}
 use Rattle.style_sheet.specs.declared.changes.Flag.{Flag}
@@ -17,7 +18,7 @@ use Rattle.style_sheet.specs.Ascii.{is_ascii}
 use Rattle.style_sheet.specs.Spelling.{ansi_names, flag_name, colour_name, colour_word, change_word, hex_pair, IsColour, IsChange}
 use Rattle.style_sheet.specs.Grammar.{HaveWords, IsWords, words_text}
 use Rattle.style_sheet.proofs.ColourNames.{below_sixteen, pair_value, pair_value-hex_pair, digit_char-apart, digit_char-ascii}
-use Rattle.style_sheet.proofs.Parts.{parts, lacks, all-append, all-join, and_from, parts-some, parts-join, each_text, among, map-same}
+use Rattle.style_sheet.proofs.Parts.{parts, lacks, all-append, all-join, parts-some, parts-join, each_text, among, map-same}
 use Rattle.style_sheet.proofs.Tables.{flags}
 
 -- the flag with this name

@@ -1,5 +1,5 @@
 //! Colours, by their names.
-ghost use Rattle.std.specs.Prelude.{◌≡◌, ◌≢◌, ◌<◌, ℕ, Option, IfSome, IfNone, slice_index_or, [], ◌∷◌, ◌++◌};
+ghost use Rattle.std.specs.Prelude.{◌≡◌, ◌≢◌, ◌<◌, ℕ, Option, IfSome, IfNone, slice_index_or, [], ◌∷◌};
 ghost use Rattle.std.specs.Char.{digit_char};
 ghost use Rattle.cell_grid.specs.declared.attrs.Colour.{Colour};
 ghost use Rattle.cell_grid.specs.declared.attrs.Colour.TheVariants.{Rgb};

@@ -1,9 +1,8 @@
 -- What is held serves as the rest: more text gives what the whole text gives.
 use Rattle.std.proofs.Common.{◌≡◌, ℕ, ◌+◌, ◌-◌, ◌<◌, ◌≤◌, Bool, true, false, cond, List, [], ◌∷◌, ◌++◌, append_assoc, length, take, drop, drop-drop, Option, Some, None, refl, sym, ap, ◌∙◌, arith, ⊎_elim}
-use Rattle.std.specs.Prelude.{◌==◌, ◌&&◌, not, is_none}
-use Rattle.std.proofs.lemmas.List.{drop_all, append-nil}
+use Rattle.std.specs.Prelude.{◌==◌, ◌&&◌, not}
 use Rattle.vt_input.specs.declared.cutter.Cutter.{Cutter}
-use Rattle.vt_input.specs.Taken.{given_with, Takes, IsWaiting, cut_at}
+use Rattle.vt_input.specs.Taken.{Takes}
 use Rattle.vt_input.proofs.SequenceLemmas.{length-is_prefix}
 use Prim.Native.Nat.{zero, suc}
 use Rattle.std.proofs.lemmas.Bool.{cases_Bool, eqb-true, and_parts}
@@ -14,7 +13,7 @@ use Rattle.vt_input.specs.declared.row.SeqRow.{SeqRow}
 use Rattle.characters.specs.Cut.{Cut}
 use Rattle.vt_input.specs.Sequences.{is_prefix}
 use Rattle.vt_input.specs.Pressed.{opening, end_place, pasted, paste_press, paste_by, opens, waits, chosen, decision, press_by, first_by, first_key, keys_of}
-use Rattle.vt_input.specs.Held.{Paste, Held, Fed, nothing, begun, step, Went, still, over, went_by, went, held_still, held_by, held_of, fed_cut, press_first, fed_went, fed_by, with_presses}
+use Rattle.vt_input.specs.Held.{Paste, Held, Fed, nothing, begun, Went, still, over, went, held_still, held_by, held_of, fed_cut, press_first, fed_went, fed_by, with_presses}
 use Rattle.characters.proofs.CutLemmas.{cut-append, cut-step, cut-waits, Waits, Waits-cut_behind, rest-nil}
 use Rattle.vt_input.proofs.KeyLemmas.{first_key-stable, first_key-flush, end_place-none, Takes-chosen}
 use Rattle.vt_input.proofs.PasteLemmas.{went_then, went-append, WentIs, went-is, pasted-is}

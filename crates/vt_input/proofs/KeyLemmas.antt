@@ -2,7 +2,7 @@
 use Rattle.std.proofs.Common.{◌≡◌, ℕ, ◌+◌, ◌-◌, ◌≤◌, Bool, true, false, cond, List, [], ◌∷◌, ◌++◌, length, length-drop, take, drop, Option, Some, None, refl, sym, ap, subst, ◌∙◌, arith, ⊎_elim}
 use Rattle.std.specs.Prelude.{◌==◌, ◌&&◌, ◌||◌}
 use Rattle.std.specs.Option.{option_map}
-use Rattle.std.proofs.lemmas.Bool.{cases_Bool, cond-true, cond-false}
+use Rattle.std.proofs.lemmas.Bool.{cases_Bool, cond-true, cond-false, or_parts, or_from}
 use Rattle.std.proofs.lemmas.List.{take-append-le, drop-append-le}
 use Rattle.key_names.specs.declared.key.Key.{Key}
 use Rattle.key_names.specs.declared.key.Key.TheVariants.{Char, Ignored}
@@ -13,7 +13,7 @@ use Rattle.vt_input.specs.declared.row.SeqRow.{SeqRow}
 use Rattle.vt_input.specs.Sequences.{is_prefix, is_proper_prefix, introducer, control_sequence, is_begun, is_known, is_short, longest_from}
 use Rattle.vt_input.specs.Pressed.{opening, ending, end_place, pasted, paste_press, is_open, waits, chosen_by, chosen, decision, press_by, paste_by, opens, first_by, first_key}
 use Rattle.characters.proofs.CutLemmas.{IsStable}
-use Rattle.vt_input.proofs.SequenceLemmas.{or_parts, or-both, is_prefix-more, is_proper_prefix-more, is_prefix-append, length-is_prefix, length-is_proper_prefix, is_begun-more, is_known-more, length-is_begun, longest_from-more, proper_prefix-long, Takes, Takes-longest_from, control_sequence-more, IfWhole, whole-within, length-is_open}
+use Rattle.vt_input.proofs.SequenceLemmas.{is_prefix-more, is_proper_prefix-more, is_prefix-append, length-is_prefix, length-is_proper_prefix, is_begun-more, is_known-more, length-is_begun, longest_from-more, proper_prefix-long, Takes, Takes-longest_from, control_sequence-more, IfWhole, whole-within, length-is_open}
 
 -- no two facts of a pair of tests hold at once with nothing behind
 and-none : (a b : Bool) → (a && (b && false)) ≡ false
@@ -64,8 +64,8 @@ IsDecided-from rows x e =
 waits-more : (rows : List SeqRow) (x more : List ℕ) → waits rows x ≡ false → waits rows (x ++ more) ≡ false
 waits-more rows x more e =
     let h = IsDecided-from rows x e in
-    or-both (is_proper_prefix (x ++ more) opening) (is_begun rows (x ++ more) || is_open (control_sequence (x ++ more))) (is_proper_prefix-more opening x more h.mark)
-    (or-both (is_begun rows (x ++ more)) (is_open (control_sequence (x ++ more))) (is_begun-more rows x more h.known)
+    or_from (is_proper_prefix (x ++ more) opening) (is_begun rows (x ++ more) || is_open (control_sequence (x ++ more))) (is_proper_prefix-more opening x more h.mark)
+    (or_from (is_begun rows (x ++ more)) (is_open (control_sequence (x ++ more))) (is_begun-more rows x more h.known)
     (ap (λ (s : ControlSequence). is_open s) (control_sequence-more x more (not_introduced x h.mark) h.sequence) ∙ h.sequence))
 
 -- a text that waits outside a paste is short

@@ -3,7 +3,7 @@ use Prim.Native.Nat.{zero, suc}
 use Rattle.std.proofs.Common.{◌≡◌, ℕ, ◌<◌, Bool, true, false, cond, List, [], ◌∷◌, ◌++◌, length, get_or, slice_index, Some, eq-eqb, refl, sym, ap, ◌∙◌, arith, ⊎_elim}
 use Rattle.std.specs.Prelude.{◌==◌, ◌&&◌, ◌||◌, not, nat_le, slice_get}
 use Rattle.std.specs.Bool.{OnTrue}
-use Rattle.std.proofs.lemmas.Bool.{cases_Bool, eqb-true, false≢true, and_parts}
+use Rattle.std.proofs.lemmas.Bool.{cases_Bool, eqb-true, false≢true, and_parts, and_right}
 use Rattle.std.proofs.lemmas.List.{get_or_default}
 use Rattle.std.proofs.lemmas.Option.{slice_get_within, get_or_from_slice_get}
 use Rattle.key_names.specs.declared.key.Key.{Key}
@@ -12,10 +12,6 @@ use Rattle.vt_input.specs.declared.row.SeqRow.{SeqRow}
 use Rattle.vt_input.specs.Sequences.{is_prefix, is_proper_prefix, is_begun, is_known, longer, longest_from, begins_plain, begins_with_control, begin_with_control}
 use Rattle.vt_input.specs.Near.{IsUnlike, IsSameSearch}
 
-and-false : (a b : Bool) → b ≡ false → (a && b) ≡ false
-and-false true b e = e
-and-false false b e = refl
-
 pub prefix-unlike : (row x : List ℕ) (k : ℕ) → k < length row → k < length x → (slice_index row k ≡ slice_index x k → ⊥) → is_prefix row x ≡ false
 prefix-unlike [] x k r l differ = absurd (omega arith)
 prefix-unlike (a ∷ row) [] k r l differ = absurd (omega arith)
@@ -23,7 +19,7 @@ prefix-unlike (a ∷ row) (c ∷ cs) zero r l differ = ⊎_elim
     (λ (same : a == c ≡ true). absurd (differ (eqb-true a c same)))
     (λ (other : a == c ≡ false). ap (λ (b : Bool). b && is_prefix row cs) other)
     (cases_Bool (a == c))
-prefix-unlike (a ∷ row) (c ∷ cs) (suc k) r l differ = and-false (a == c) (is_prefix row cs) (prefix-unlike row cs k (omega arith) (omega arith) differ)
+prefix-unlike (a ∷ row) (c ∷ cs) (suc k) r l differ = and_right (a == c) (is_prefix row cs) (prefix-unlike row cs k (omega arith) (omega arith) differ)
 
 pub proper_prefix-unlike : (row x : List ℕ) (k : ℕ) → k < length row → k < length x → (slice_index row k ≡ slice_index x k → ⊥) → is_proper_prefix x row ≡ false
 proper_prefix-unlike [] x k r l differ = absurd (omega arith)
@@ -32,7 +28,7 @@ proper_prefix-unlike (a ∷ row) (c ∷ cs) zero r l differ = ⊎_elim
     (λ (same : a == c ≡ true). absurd (differ (eqb-true a c same)))
     (λ (other : a == c ≡ false). ap (λ (b : Bool). b && is_proper_prefix cs row) other)
     (cases_Bool (a == c))
-proper_prefix-unlike (a ∷ row) (c ∷ cs) (suc k) r l differ = and-false (a == c) (is_proper_prefix cs row) (proper_prefix-unlike row cs k (omega arith) (omega arith) differ)
+proper_prefix-unlike (a ∷ row) (c ∷ cs) (suc k) r l differ = and_right (a == c) (is_proper_prefix cs row) (proper_prefix-unlike row cs k (omega arith) (omega arith) differ)
 
 pub IsUnlike-at : (row : SeqRow) (x : List ℕ) (k : ℕ) → k < length row.text → k < length x → (slice_index row.text k ≡ slice_index x k → ⊥) → IsUnlike row x
 IsUnlike-at row x k r l differ = record { known = prefix-unlike row.text x k r l differ; begun = proper_prefix-unlike row.text x k r l differ }

@@ -1,7 +1,7 @@
 -- What is decided at the front of a text stays decided, whatever follows.
 use Rattle.std.proofs.Common.{◌≡◌, ℕ, ◌+◌, ◌<◌, ◌≤◌, Bool, true, false, cond, nat_lt, List, [], ◌∷◌, ◌++◌, length, drop, Option, Some, None, refl, sym, ap, subst, ◌∙◌, arith, ⊎_elim}
 use Rattle.std.specs.Prelude.{◌==◌, ◌&&◌, ◌||◌, nat_le}
-use Rattle.std.proofs.lemmas.Bool.{cases_Bool, cond-true, cond-false, and_parts}
+use Rattle.std.proofs.lemmas.Bool.{cases_Bool, cond-true, cond-false, and_parts, or_parts, or_from}
 use Rattle.std.proofs.lemmas.Bool.Decides.{nat_tests}
 use Rattle.characters.specs.ControlCharacters.{is_final}
 use Rattle.key_names.specs.declared.key.Key.{Key}
@@ -23,14 +23,6 @@ and-false false p q e stays = refl
 and-true : (b : Bool) → (b && true) ≡ false → b ≡ false
 and-true true e = e
 and-true false e = refl
-
-pub or_parts : (a b : Bool) → (a || b) ≡ false → (a ≡ false) × (b ≡ false)
-or_parts false b e = (refl, e)
-or_parts true b e = absurd (cc)
-
-pub or-both : (a b : Bool) → a ≡ false → b ≡ false → (a || b) ≡ false
-or-both false b p q = q
-or-both true b p q = absurd (cc)
 
 -- a list that is no proper front of the row stays none, and more text changes nothing
 pub is_prefix-more : (row x more : List ℕ) → is_proper_prefix x row ≡ false → is_prefix row (x ++ more) ≡ is_prefix row x
@@ -71,7 +63,7 @@ pub is_begun-more : (rows : List SeqRow) (x more : List ℕ) → is_begun rows x
 is_begun-more [] x more e = refl
 is_begun-more (row ∷ rows) x more e =
     let parts : (is_proper_prefix x row.text ≡ false) × (is_begun rows x ≡ false) = or_parts (is_proper_prefix x row.text) (is_begun rows x) e in
-    or-both (is_proper_prefix (x ++ more) row.text) (is_begun rows (x ++ more)) (is_proper_prefix-more row.text x more parts.0) (is_begun-more rows x more parts.1)
+    or_from (is_proper_prefix (x ++ more) row.text) (is_begun rows (x ++ more)) (is_proper_prefix-more row.text x more parts.0) (is_begun-more rows x more parts.1)
 
 pub is_known-more : (rows : List SeqRow) (n : ℕ) (x more : List ℕ) → is_begun rows x ≡ false → is_known rows n (x ++ more) ≡ is_known rows n x
 is_known-more [] n x more e = refl

@@ -30,8 +30,7 @@ impl Model for OpenPaste {
 }
 
 impl OpenPaste {
-    ghost use Rattle.std.specs.Prelude.{◌≡◌, true, false, take, Some, is_none, IfOk, OnOk};
-    ghost use Rattle.vt_input.specs.Pressed.{ending};
+    ghost use Rattle.std.specs.Prelude.{◌≡◌, true, false, Some, is_none, IfOk, OnOk};
     ghost use Rattle.vt_input.specs.Held.{begun, add, add_all, missed, step};
 
     /// Returns a paste that has just begun.

@@ -1,4 +1,4 @@
-use Rattle.std.proofs.Common.{sym, subst, ap, ◌∙◌, arith, List, length, map}
+use Rattle.std.proofs.Common.{sym, subst, ap, ◌∙◌, arith, List, length}
 use Rattle.std.proofs.lemmas.List.{length-map}
 use Rattle.key_proc.specs.declared.bindings.Binding.{Binding}
 use Rattle.key_proc.specs.Rows.{binding_of}

@@ -1,7 +1,5 @@
-use Rattle.std.proofs.Common.{◌≡◌, ◌≢◌, ◌<◌, length, drop, sym, ap, subst, ◌∙◌, arith}
-use Rattle.key_names.specs.declared.key.KeyPress.{KeyPress}
+use Rattle.std.proofs.Common.{length, drop, sym, ap, ◌∙◌, arith}
 use Rattle.key_proc.specs.declared.held.Fired.{Fired}
-use Rattle.key_proc.specs.declared.held.Fired.TheVariants.{Wait, Nothing}
 use Rattle.key_proc.specs.Facts.{has}
 use Rattle.key_proc.specs.Firing.{taken}
 use Rattle.key_proc.proofs.Lowering.{lowers, few-wait}
