@@ -7,6 +7,7 @@ use Rattle.term_model.specs.Controls.{Control}
 use Rattle.term_model.specs.Obeying.{act, acted}
 use Rattle.term_model.specs.Term.{Term}
 use Rattle.diff_render.specs.Canvas.{Canvas, On, touched, touched_by, Touches, Draws}
+use Rattle.diff_render.proofs.Made.{made_none, made_then}
 use Rattle.diff_render.proofs.Reading.{spells_none, spells_then, quiet_none, quiet_then}
 
 pub acted-append : (t : Term) (cs ds : List Control) → acted t (cs ++ ds) ≡ acted (acted t cs) ds
@@ -30,6 +31,7 @@ draws_none rows cols ok c = record {
   controls = [];
   spells = spells_none;
   quiet = quiet_none;
+  made = made_none;
   stands = λ t base good x on. on;
   touches = λ t base good x on. refl;
 }
@@ -40,6 +42,7 @@ follows rows cols ok a b from mid to p q = record {
   controls = p.controls ++ q.controls;
   spells = spells_then a b p.controls q.controls p.spells q.spells;
   quiet = quiet_then a b p.quiet q.quiet;
+  made = made_then a b p.made q.made;
   stands = λ t base good x on. subst (λ y. On t base to y) (sym (acted-append x p.controls q.controls))
       (q.stands t base good (acted x p.controls) (p.stands t base good x on));
   touches = λ t base good x on. touches_then ok x base p.controls q.controls (p.touches t base good x on)

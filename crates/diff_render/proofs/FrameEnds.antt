@@ -25,6 +25,7 @@ use Rattle.diff_render.specs.ScreenFields.{IsKept}
 use Rattle.diff_render.specs.Turning.{BeginsAnew, Turns}
 use Rattle.diff_render.proofs.Reading.{spells_none, spells_low, spells_then, quiet_none, quiet_then}
 use Rattle.diff_render.proofs.Leaves.{spells_up, quiet_up, arrow_length}
+use Rattle.diff_render.proofs.Made.{made_none, made_then, made_climb, made_opening, made_asking}
 use Rattle.diff_render.proofs.LineSteps.{blank_cell, blanks_unchanged}
 use Rattle.diff_render.proofs.Drawing.{acted-append, touches_then}
 use Rattle.diff_render.proofs.FrameSteps.{spells_reads}
@@ -70,6 +71,7 @@ frame_of_shown size g drawn_at drawing done ask bytes turns unchanged = record {
       turns.touches (is_changed g.grid drawing.grid) (λ row col h. h) t base both.0 t (shown_is t base g begins.base_line.1);
   short = omega (arith, turns.short);
   asks = quiet_alone bytes turns.quiet;
+  made = turns.made;
   ends = turns.reading;
   unchanged = unchanged;
 }
@@ -248,6 +250,7 @@ frame_anew size screen up drawing done ask asks rest bytes anew turns wrote =
         ap length anew.none_before,
         ap (λ old. changed_rows size.cols old drawing.grid) anew.none_before,
       );
+      made = made_then head rest (made_then front (asking asks) (made_then (climb up) opening (made_climb up anew.few) made_opening) (made_asking asks)) turns.made;
       ends = subst (Spells (head ++ rest)) (sym is) spells;
       asks = subst (λ b. AsksWhere b size screen (head ++ rest)) (sym anew.where_asked)
           (asks_anew asks size screen front rest quiet_front turns.quiet (λ t base begins.
@@ -310,6 +313,7 @@ frame_of_same size screen old drawn_at drawing done ask bytes is still same none
       touches = λ t base begins. ap (λ cs. list_all (λ (place : ℕ × ℕ). is_changed old.grid old.grid place.0 place.1) (touched t base cs)) nothing_read;
       short = omega arith;
       asks = refl;
+      made = made_none;
       ends = spells_none;
       unchanged = λ same still. refl;
     } in

@@ -13,6 +13,7 @@ use Rattle.diff_render.specs.Turning.{closing, Closes, Turns}
 use Rattle.diff_render.specs.Writer.{written, canvas_at, Moves, Stood}
 use Rattle.diff_render.proofs.Reading.{spells_then, quiet_then}
 use Rattle.diff_render.proofs.Drawing.{acted-append, touches_then, draws_none, draws_same}
+use Rattle.diff_render.proofs.Made.{made_then, made_closing}
 use Rattle.diff_render.proofs.FrameSteps.{spells_reads, trimmed, open_agrees, closing_controls, spells_closing, quiet_closing, closes}
 
 -- a writer that has written nothing stands where it began
@@ -54,18 +55,19 @@ same_top : (t : Term) (base old new height : ℕ) → height ≡ max old new →
 same_top t base old new height e fits = omega arith
 
 pub turns_open : (w v u : Writer) (rows cols : ℕ) (old : List (List Cell)) (drawing : Drawing) → written w ≡ [] → w.pen ≡ plain → w.rows ≡ rows → w.cols ≡ cols
-    → w.height ≡ length old → Redrawn w v old drawing.grid → Moves v u drawing.row drawing.col plain (drawing.row - v.row + 17) → drawing.row < length drawing.grid
+    → w.height ≡ length old → Redrawn w v old drawing.grid → Moves v u drawing.row drawing.col plain (drawing.row - v.row + 16) → drawing.row < length drawing.grid
     → Turns rows cols old w.row w.col drawing false (written u)
 turns_open w v u rows cols old drawing nothing pen rows_are cols_are count redrawn moves inside =
     let new = drawing.grid in
     let bytes = written u in
-    let draws = λ (ok : ℕ → ℕ → Bool) (may : MayTouchRows ok old new). reached w v u rows cols old new drawing.row drawing.col (drawing.row - v.row + 17)
+    let draws = λ (ok : ℕ → ℕ → Bool) (may : MayTouchRows ok old new). reached w v u rows cols old new drawing.row drawing.col (drawing.row - v.row + 16)
     nothing pen rows_are cols_are count redrawn moves ok may in
     let whole = draws anywhere (may_anywhere old new) in
     let is : reads bytes ≡ whole.controls = spells_reads bytes whole.controls whole.spells in
     record {
       reading = subst (λ cs. Spells bytes cs) (sym is) whole.spells;
       quiet = whole.quiet;
+      made = whole.made;
       shows = λ t base good fits x on.
           let there : On t base (canvas_of (padded v.height cols new) drawing.row drawing.col plain) (acted x (reads bytes)) =
           subst (λ cs. On t base (canvas_of (padded v.height cols new) drawing.row drawing.col plain) (acted x cs)) (sym is) (whole.stands t base good x on) in
@@ -87,7 +89,7 @@ turns_done w v u rows cols old drawing nothing pen rows_are cols_are count redra
     let m = ends.middle in
     let front = written m in
     let bytes = front ++ closing in
-    let draws = λ (ok : ℕ → ℕ → Bool) (may : MayTouchRows ok old new). reached w v m rows cols old new (height - 1) v.col (height - 1 - v.row + 10)
+    let draws = λ (ok : ℕ → ℕ → Bool) (may : MayTouchRows ok old new). reached w v m rows cols old new (height - 1) v.col (height - 1 - v.row + 9)
     nothing pen rows_are cols_are count redrawn ends.moves ok may in
     let whole = draws anywhere (may_anywhere old new) in
     let spells : Spells bytes (whole.controls ++ closing_controls) = spells_then front closing whole.controls closing_controls whole.spells spells_closing in
@@ -95,6 +97,7 @@ turns_done w v u rows cols old drawing nothing pen rows_are cols_are count redra
     let turned : Turns rows cols old w.row w.col drawing true bytes = record {
       reading = subst (λ cs. Spells bytes cs) (sym is) spells;
       quiet = quiet_then front closing whole.quiet quiet_closing;
+      made = made_then front closing whole.made made_closing;
       shows = λ t base good fits x on.
           let last = trimmed t base rows cols v.height new (height - 1) v.col plain (acted x whole.controls) good (omega (arith, redrawn.to_height))
           (same_top t base (length old) height v.height redrawn.to_height fits) (whole.stands t base good x on) in

@@ -13,17 +13,20 @@ use Rattle.cell_grid.specs.declared.attrs.Attrs.{Attrs}
 use Rattle.cell_grid.specs.Attrs.{plain}
 use Rattle.cell_grid.specs.Row.{blank_row, laid_at, put_at}
 use Rattle.cell_grid.specs.Grid.{blank_rows}
-use Rattle.term_model.specs.Parameters.{is_numeric, numbers, numbers_from}
+use Rattle.term_model.specs.Parameters.{is_numeric, numbers}
 use Rattle.characters.specs.ControlCharacters.{is_parameter}
 use Rattle.term_model.specs.Controls.{Control, Print, CR, LF, CUU, CUF, CUB, EL, ED, SGR, only, stepped, rendition}
 use Rattle.term_model.specs.Obeying.{width_of}
+use Rattle.term_model.specs.Rendition.{styled}
 use Rattle.diff_render.specs.declared.writer.Writer.{Writer}
 use Rattle.diff_render.specs.Canvas.{Canvas, canvas_of, Draws, Does, Spells, IsQuiet}
 use Rattle.cell_grid.specs.Drawable.{AllJoining, IsCharacter, IsPen}
-use Rattle.diff_render.specs.Spelling.{arrow, listed, numbers_of, spelled_pen, IsBytePen}
+use Rattle.diff_render.specs.Spelling.{arrow, numbers_of, joined, listed_by, spelled_pen, IsBytePen}
+use Rattle.diff_render.specs.Pieces.{Piece, Return, Feed, Up, Right, Left, EraseLine, ErasePage, Pen, Added, spelled, IsPiece, IsMade}
 use Rattle.diff_render.specs.Writer.{written, canvas_at, IsPlaced, Moves, Grows, Writes, Erases, ErasesBelow, Stood}
-use Rattle.diff_render.proofs.Reading.{weaker, spells_low, spells_sequence, parameter_numeric, decimal_numeric, stepped_decimal, quiet_sequence, quiet_others, listed_numeric, numbers_listed}
-use Rattle.diff_render.proofs.Pens.{small_numbers, pen_length, styled_numbers}
+use Rattle.diff_render.proofs.Reading.{weaker, spells_low, spells_sequence, parameter_numeric, decimal_numeric, stepped_decimal, quiet_sequence, quiet_others, listed_by_numeric, numbers_anew, numbers_added, rendition_some}
+use Rattle.diff_render.proofs.Made.{made_of, made_text}
+use Rattle.diff_render.proofs.PenNumbers.{small_numbers, pen_length, styled_numbers, styled_added, some_numbers}
 use Rattle.diff_render.proofs.Texts.{AllPrinted, spells_text, quiet_text, length_text, printed_width}
 use Rattle.diff_render.proofs.Steps.{does_return, does_right, does_left, does_up, does_down, does_grow, does_pen}
 use Rattle.diff_render.proofs.Printing.{AllJoin, does_print, touches_print, does_erase, does_erase_below, same_height}
@@ -112,6 +115,7 @@ moves_right old new n placed some fits steps =
       controls = CUF n ∷ [];
       spells = subst (λ c. Spells (arrow n 67) (c ∷ [])) (arrow_means CUF n some (omega arith)) (spells_sequence (arrow_params n) 67 (arrow_parameters n (omega arith)) refl refl refl refl);
       quiet = quiet_sequence (arrow_params n) 67 (arrow_parameters n (omega arith)) refl refl refl;
+      made = made_of (Right n) (some, few);
       stands = does_right old.rows old.cols lines old.row old.col old.pen n fits;
       touches = λ t base good x on. refl;
     })
@@ -125,6 +129,7 @@ moves_left old new n placed some fits steps =
       controls = CUB n ∷ [];
       spells = subst (λ c. Spells (arrow n 68) (c ∷ [])) (arrow_means CUB n some (omega arith)) (spells_sequence (arrow_params n) 68 (arrow_parameters n (omega arith)) refl refl refl refl);
       quiet = quiet_sequence (arrow_params n) 68 (arrow_parameters n (omega arith)) refl refl refl;
+      made = made_of (Left n) (some, few);
       stands = does_left old.rows old.cols lines old.row old.col old.pen n;
       touches = λ t base good x on. refl;
     })
@@ -138,6 +143,7 @@ moves_up old new n placed some fits steps =
       controls = CUU n ∷ [];
       spells = subst (λ c. Spells (arrow n 65) (c ∷ [])) (arrow_means CUU n some (omega arith)) (spells_sequence (arrow_params n) 65 (arrow_parameters n (omega arith)) refl refl refl refl);
       quiet = quiet_sequence (arrow_params n) 65 (arrow_parameters n (omega arith)) refl refl refl;
+      made = made_of (Up n) (some, few);
       stands = does_up old.rows old.cols lines old.row old.col old.pen n fits;
       touches = λ t base good x on. refl;
     })
@@ -157,6 +163,7 @@ moves_home old new placed steps =
       controls = CR ∷ [];
       spells = spells_low (13 ∷ []) (CR ∷ []) refl (λ rest. refl);
       quiet = quiet_others (13 ∷ []) refl;
+      made = made_of Return tt;
       stands = does_return old.rows old.cols lines old.row old.col old.pen;
       touches = λ t base good x on. refl;
     })
@@ -169,6 +176,7 @@ moves_down old new placed fits steps =
       controls = LF ∷ [];
       spells = spells_low (10 ∷ []) (LF ∷ []) refl (λ rest. refl);
       quiet = quiet_others (10 ∷ []) refl;
+      made = made_of Feed tt;
       stands = does_down old.rows old.cols lines old.row old.col old.pen (omega (arith, placed.tall)) (omega arith);
       touches = λ t base good x on. refl;
     })
@@ -182,6 +190,7 @@ grows_by_line old new placed last room pen wrote row col pen_is rows cols height
         controls = LF ∷ [];
         spells = spells_low (10 ∷ []) (LF ∷ []) refl (λ rest. refl);
         quiet = quiet_others (10 ∷ []) refl;
+        made = made_of Feed tt;
         stands = subst (λ p. Does old.rows old.cols (LF ∷ []) (canvas_of lines old.row old.col p) (canvas_of (lines ++ blank_row old.cols ∷ []) (old.row + 1) old.col p)) (sym pen)
             (does_grow old.rows old.cols lines old.row old.col (omega (arith, stood.count)) (omega (arith, stood.count)));
         touches = λ t base good x on. refl;
@@ -206,30 +215,46 @@ grows_by_line old new placed last room pen wrote row col pen_is rows cols height
 
 -- ---- pens
 
-pub moves_pen : (old new : Writer) (pen : Attrs) → IsPlaced old → IsPen pen → IsBytePen pen → Steps old new (spelled_pen pen) old.row old.col pen
-    → Moves old new old.row old.col pen 52
-moves_pen old new pen placed good bytes steps =
-    let small = small_numbers pen good bytes in
-    let numeric : list_all is_numeric (48 ∷ listed (numbers_of pen)) ≡ true = listed_numeric (numbers_of pen) small in
-    let params = weaker is_numeric is_parameter parameter_numeric (48 ∷ listed (numbers_of pen)) numeric in
-    let reads : numbers (48 ∷ listed (numbers_of pen)) ≡ 0 ∷ numbers_of pen =
-    ap (λ b. if b then numbers_from 0 (48 ∷ listed (numbers_of pen)) else []) numeric ∙ numbers_listed 0 (numbers_of pen) (omega arith) small in
-    moves_by old new (spelled_pen pen) old.row old.col pen 52 placed steps (pen_length pen good bytes) placed.on_line placed.in_line
+-- the sequence of some attributes does this to a pen
+moves_styled : (old new : Writer) (adds : Bool) (attrs pen : Attrs) (piece : Piece) (numbers_are : List ℕ) → spelled piece ≡ spelled_pen adds attrs → IsPiece piece
+    → IsPlaced old → IsPen attrs → IsBytePen attrs → numbers (listed_by adds (numbers_of attrs)) ≡ numbers_are → rendition numbers_are ≡ SGR numbers_are
+    → styled old.pen numbers_are ≡ pen → Steps old new (spelled_pen adds attrs) old.row old.col pen → Moves old new old.row old.col pen 52
+moves_styled old new adds attrs pen piece numbers_are is right placed good bytes reads some style steps =
+    let small = small_numbers attrs good bytes in
+    let params = weaker is_numeric is_parameter parameter_numeric (listed_by adds (numbers_of attrs)) (listed_by_numeric adds (numbers_of attrs) small) in
+    moves_by old new (spelled_pen adds attrs) old.row old.col pen 52 placed steps (pen_length adds attrs good bytes) placed.on_line placed.in_line
     (λ ok lines count. record {
-      controls = SGR (0 ∷ numbers_of pen) ∷ [];
-      spells = subst (λ c. Spells (spelled_pen pen) (c ∷ [])) (ap rendition reads) (spells_sequence (48 ∷ listed (numbers_of pen)) 109 params refl refl refl refl);
-      quiet = quiet_sequence (48 ∷ listed (numbers_of pen)) 109 params refl refl refl;
-      stands = does_pen old.rows old.cols lines old.row old.col old.pen pen (0 ∷ numbers_of pen) (styled_numbers old.pen pen good bytes);
+      controls = SGR numbers_are ∷ [];
+      spells = subst (λ c. Spells (spelled_pen adds attrs) (c ∷ [])) (ap rendition reads ∙ some)
+          (spells_sequence (listed_by adds (numbers_of attrs)) 109 params refl refl refl refl);
+      quiet = quiet_sequence (listed_by adds (numbers_of attrs)) 109 params refl refl refl;
+      made = subst IsMade is (made_of piece right);
+      stands = does_pen old.rows old.cols lines old.row old.col old.pen pen numbers_are style;
       touches = λ t base good x on. refl;
     })
 
-pub moves_plain : (old new : Writer) → IsPlaced old → Steps old new (27 ∷ 91 ∷ 48 ∷ 109 ∷ []) old.row old.col plain → Moves old new old.row old.col plain 4
+pub moves_pen : (old new : Writer) (pen : Attrs) → IsPlaced old → IsPen pen → IsBytePen pen → Steps old new (spelled_pen false pen) old.row old.col pen
+    → Moves old new old.row old.col pen 52
+moves_pen old new pen placed good bytes steps =
+    moves_styled old new false pen pen (Pen pen) (0 ∷ numbers_of pen) refl (good, bytes) placed good bytes
+    (numbers_anew (numbers_of pen) (small_numbers pen good bytes)) refl (styled_numbers old.pen pen good bytes) steps
+
+pub moves_added : (old new : Writer) (more : Attrs) (pen : Attrs) → IsPlaced old → IsPen more → IsBytePen more → (more ≡ plain → ⊥) → joined old.pen more ≡ pen
+    → Steps old new (spelled_pen true more) old.row old.col pen → Moves old new old.row old.col pen 52
+moves_added old new more pen placed good bytes some is steps =
+    let added = some_numbers more some in
+    moves_styled old new true more pen (Added more) (numbers_of more) refl (good, bytes, added) placed good bytes
+    (numbers_added (numbers_of more) (small_numbers more good bytes) added) (rendition_some (numbers_of more) added)
+    (styled_added old.pen more good bytes ∙ is) steps
+
+pub moves_plain : (old new : Writer) → IsPlaced old → Steps old new (27 ∷ 91 ∷ 109 ∷ []) old.row old.col plain → Moves old new old.row old.col plain 3
 moves_plain old new placed steps =
-    moves_by old new (27 ∷ 91 ∷ 48 ∷ 109 ∷ []) old.row old.col plain 4 placed steps (omega arith) placed.on_line placed.in_line
+    moves_by old new (27 ∷ 91 ∷ 109 ∷ []) old.row old.col plain 3 placed steps (omega arith) placed.on_line placed.in_line
     (λ ok lines count. record {
       controls = SGR (0 ∷ []) ∷ [];
-      spells = spells_low (27 ∷ 91 ∷ 48 ∷ 109 ∷ []) (SGR (0 ∷ []) ∷ []) refl (λ rest. refl);
-      quiet = quiet_sequence (48 ∷ []) 109 refl refl refl refl;
+      spells = spells_low (27 ∷ 91 ∷ 109 ∷ []) (SGR (0 ∷ []) ∷ []) refl (λ rest. refl);
+      quiet = quiet_sequence [] 109 refl refl refl refl;
+      made = made_of (Pen plain) ((tt, tt), (tt, tt));
       stands = does_pen old.rows old.cols lines old.row old.col old.pen plain (0 ∷ []) refl;
       touches = λ t base good x on. refl;
     })
@@ -268,6 +293,7 @@ writes_cell old new (c ∷ zs) width placed is one_or_two fits few valid prints 
             controls = Print c ∷ map Print zs;
             spells = spells_text (c ∷ zs) printed valid;
             quiet = quiet_text (c ∷ zs) printed;
+            made = made_text (c ∷ zs) printed valid;
             stands = does_print old.rows old.cols above below line old.row old.col old.pen c width zs place n long wide one_or_two fits (joining zs is.1) (omega arith);
             touches = touches_print ok old.rows old.cols (above ++ line ∷ below) old.row old.col old.pen c width zs n wide one_or_two fits (joining zs is.1) passes;
           } in
@@ -297,6 +323,7 @@ erases_line old new placed pen steps = record {
         controls = EL ∷ [];
         spells = spells_low (27 ∷ 91 ∷ 75 ∷ []) (EL ∷ []) refl (λ rest. refl);
         quiet = quiet_sequence [] 75 refl refl refl refl;
+        made = made_of EraseLine tt;
         stands = subst (λ p. Does old.rows old.cols (EL ∷ []) (canvas_of (above ++ line ∷ below) old.row old.col p) (canvas_of after old.row old.col p)) (sym pen)
             (does_erase old.rows old.cols above below line old.row old.col place (omega (arith, stood.count, placed.tall)));
         touches = λ t base good x on. refl;
@@ -328,6 +355,7 @@ erases_below old new placed pen steps = record {
         controls = ED ∷ [];
         spells = spells_low (27 ∷ 91 ∷ 74 ∷ []) (ED ∷ []) refl (λ rest. refl);
         quiet = quiet_sequence [] 74 refl refl refl refl;
+        made = made_of ErasePage tt;
         stands = subst (λ p. Does old.rows old.cols (ED ∷ []) (canvas_of (above ++ line ∷ below) old.row old.col p) (canvas_of after old.row old.col p)) (sym pen)
             (does_erase_below old.rows old.cols above below line old.row old.col place (omega (arith, stood.count, placed.tall)));
         touches = λ t base good x on. refl;

@@ -7,9 +7,10 @@ pub mod FrameTurns
 pub mod Leaves
 pub mod LineEnds
 pub mod LineSteps
+pub mod Made
 pub mod Moves
 pub mod Openings
-pub mod Pens
+pub mod PenNumbers
 pub mod Printing
 pub mod Reading
 pub mod RowEnds

@@ -117,7 +117,7 @@ erased_row line cols long =
 -- what is left is erased
 pub rows_erased : (w v a b c x : Writer) (old new : List (List Cell)) (end old_end : ℕ) → AllRows w.cols old → columns old ≡ w.cols → columns new ≡ w.cols
     → length old ≤ w.height → length new ≤ w.height → end ≤ length new → IsBlankBelow end new → old_end ≤ length old → (0 < old_end → IsDrawnRow (old_end - 1) old) → end < old_end
-    → RowsSoFar w v old new end → Moves v a end v.col v.pen (end - v.row + 6) → Moves a b a.row 0 a.pen 7 → Moves b c b.row b.col plain 4 → ErasesBelow c x
+    → RowsSoFar w v old new end → Moves v a end v.col v.pen (end - v.row + 6) → Moves a b a.row 0 a.pen 7 → Moves b c b.row b.col plain 3 → ErasesBelow c x
     → RowsSoFar w x old new w.height
 rows_erased w v a b c x old new end old_end rows wide_old wide_new few_old few_new within blanks old_within drawn higher so_far goes homes takes erases =
     let height = w.height in

@@ -1,5 +1,5 @@
 -- What the pieces of a frame read as, whatever comes behind them, and that they hold no question.
-use Rattle.std.proofs.Common.{◌≡◌, ℕ, ◌+◌, ◌-◌, ◌*◌, ◌/◌, ◌%◌, ◌^◌, ◌<◌, ◌≤◌, Bool, true, false, not, List, [], ◌∷◌, ◌++◌, length, drop, slice_index, nat_eq, nat_lt, max, refl, sym, ap, ◌∙◌, arith, append_assoc, append-nil}
+use Rattle.std.proofs.Common.{◌≡◌, ℕ, ◌+◌, ◌-◌, ◌*◌, ◌/◌, ◌%◌, ◌^◌, ◌<◌, ◌≤◌, Bool, true, false, not, List, [], ◌∷◌, ◌++◌, length, drop, slice_index, nat_eq, nat_lt, max, refl, sym, ap, ◌∙◌, arith, append_assoc, append-nil, if◌then◌else◌}
 use Rattle.term_model.specs.Obeying.{chars_of}
 use Rattle.std.specs.List.{list_all}
 use Rattle.std.specs.Fmt.{decimal}
@@ -10,9 +10,9 @@ use Rattle.std.proofs.lemmas.Fmt.{decimal_by_steps}
 use Rattle.term_model.proofs.CharLemmas.{chars_of-ascii}
 use Rattle.term_model.specs.Parameters.{is_digit, is_numeric, capped, numbers_from, numbers}
 use Rattle.characters.specs.ControlCharacters.{is_parameter, is_intermediate, is_final}
-use Rattle.term_model.specs.Controls.{Control, between, parameters, controls_from, function_of, stepped, only}
+use Rattle.term_model.specs.Controls.{Control, between, parameters, controls_from, function_of, stepped, only, rendition, SGR}
 use Rattle.diff_render.specs.Canvas.{reads, Spells, starts, one_more, asked, IsQuiet}
-use Rattle.diff_render.specs.Spelling.{listed}
+use Rattle.diff_render.specs.Spelling.{listed, listed_by, still_first}
 
 -- ---- lists of tests
 
@@ -135,27 +135,71 @@ stepped_decimal control n h k =
     let is : numbers (decimal n) ≡ n ∷ [] = rw (decimal_numeric n (omega arith)) whole in
     ap (λ x. stepped control (only x)) is ∙ ap control (arrow_number n h k)
 
+-- behind a number each has its separator
+listed_behind : (ms : List ℕ) → listed_by false ms ≡ listed ms
+listed_behind [] = refl
+listed_behind (m ∷ ms) = refl
+
 pub listed-append : (ms ns : List ℕ) → listed (ms ++ ns) ≡ listed ms ++ listed ns
 listed-append [] ns = refl
 listed-append (m ∷ ms) ns = ap (λ x. 59 ∷ decimal m ++ x) (listed-append ms ns) ∙ ap (λ x. 59 ∷ x) (sym (append_assoc (decimal m) (listed ms) (listed ns)))
 
-listed_more : (x ns ms : List ℕ) → (x ++ listed ns) ++ listed ms ≡ x ++ listed (ns ++ ms)
-listed_more x ns ms = append_assoc x (listed ns) (listed ms) ∙ ap (λ y. x ++ y) (sym (listed-append ns ms))
+-- a list of numbers that is appended behind another one
+listed_more : (x : List ℕ) (first : Bool) (ns ms : List ℕ) → (x ++ listed_by first ns) ++ listed_by (still_first first ns) ms ≡ x ++ listed_by first (ns ++ ms)
+listed_more x first [] ms = ap (λ y. y ++ listed_by first ms) (append-nil x)
+listed_more x true (n ∷ ns) ms =
+    ap (λ y. (x ++ (decimal n ++ listed ns)) ++ y) (listed_behind ms) ∙ append_assoc x (decimal n ++ listed ns) (listed ms)
+    ∙ ap (λ y. x ++ y) (append_assoc (decimal n) (listed ns) (listed ms) ∙ ap (λ y. decimal n ++ y) (sym (listed-append ns ms)))
+listed_more x false (n ∷ ns) ms =
+    ap (λ y. (x ++ listed (n ∷ ns)) ++ y) (listed_behind ms) ∙ append_assoc x (listed (n ∷ ns)) (listed ms)
+    ∙ ap (λ y. x ++ y) (sym (listed-append (n ∷ ns) ms))
 
--- nine lists of numbers that are appended one after another
-pub listed_nine : (x a b c d e f g h k : List ℕ) → ((((((((x ++ listed a) ++ listed b) ++ listed c) ++ listed d) ++ listed e) ++ listed f) ++ listed g) ++ listed h) ++ listed k
-    ≡ x ++ listed (((((((a ++ b) ++ c) ++ d) ++ e) ++ f) ++ g) ++ h ++ k)
-listed_nine x a b c d e f g h k =
-    rw (
-      listed_more x a b,
-      listed_more x (a ++ b) c,
-      listed_more x (a ++ b ++ c) d,
-      listed_more x (a ++ b ++ c ++ d) e,
-      listed_more x (a ++ b ++ c ++ d ++ e) f,
-      listed_more x (a ++ b ++ c ++ d ++ e ++ f) g,
-      listed_more x (a ++ b ++ c ++ d ++ e ++ f ++ g) h,
-      listed_more x (a ++ b ++ c ++ d ++ e ++ f ++ g ++ h) k,
-    ) refl
+still_more : (first : Bool) (ns ms : List ℕ) → still_first (still_first first ns) ms ≡ still_first first (ns ++ ms)
+still_more first [] ms = refl
+still_more first (n ∷ ns) [] = refl
+still_more first (n ∷ ns) (m ∷ ms) = refl
+
+-- bytes behind which some numbers were listed, and whether the next one is the first
+abbrev pub Listed : List ℕ → Bool → List ℕ → List ℕ → Bool → Type 0
+Listed old first ns bytes still = (bytes ≡ old ++ listed_by first ns) × (still ≡ still_first first ns)
+
+pub listed_then : (old : List ℕ) (first : Bool) (ns : List ℕ) (bytes : List ℕ) (still : Bool) (ms new : List ℕ) (then_still : Bool) → Listed old first ns bytes still
+    → new ≡ bytes ++ listed_by still ms → then_still ≡ still_first still ms → Listed old first (ns ++ ms) new then_still
+listed_then old first ns bytes still ms new then_still h wrote next = (
+  wrote ∙ ap (λ b. b ++ listed_by still ms) h.0 ∙ ap (λ b. old ++ listed_by first ns ++ listed_by b ms) h.1 ∙ listed_more old first ns ms,
+  next ∙ ap (λ b. still_first b ms) h.1 ∙ still_more first ns ms,
+)
+
+-- the whole sequence
+pub listed_whole : (old : List ℕ) (first : Bool) (ns start bytes new : List ℕ) (still : Bool) → start ≡ old ++ 27 ∷ 91 ∷ [] → Listed start first ns bytes still
+    → new ≡ bytes ++ 109 ∷ [] → new ≡ old ++ (27 ∷ 91 ∷ listed_by first ns ++ 109 ∷ [])
+listed_whole old first ns start bytes new still begin h wrote =
+    wrote ∙ ap (λ b. b ++ 109 ∷ []) (h.0 ∙ ap (λ b. b ++ listed_by first ns) begin)
+    ∙ append_assoc (old ++ 27 ∷ 91 ∷ []) (listed_by first ns) (109 ∷ []) ∙ append_assoc old (27 ∷ 91 ∷ []) (listed_by first ns ++ 109 ∷ [])
+
+-- ---- what listed numbers read as
+
+pub listed_by_numeric : (first : Bool) (ns : List ℕ) → AllSmall ns → list_all is_numeric (listed_by first ns) ≡ true
+listed_by_numeric first [] h = refl
+listed_by_numeric true (n ∷ ns) h =
+    all_append is_numeric (decimal n) (listed ns) (decimal_numeric n (omega (arith, h.0))) (listed_numeric ns h.1)
+listed_by_numeric false (n ∷ ns) h = listed_numeric (n ∷ ns) h
+
+-- an empty number is the first
+pub numbers_anew : (ns : List ℕ) → AllSmall ns → numbers (listed_by false ns) ≡ 0 ∷ ns
+numbers_anew [] h = refl
+numbers_anew (n ∷ ns) h =
+    ap (λ b. if b then numbers_from 0 (listed (n ∷ ns)) else []) (listed_numeric (n ∷ ns) h) ∙ numbers_listed 0 (n ∷ ns) (omega arith) h
+
+pub numbers_added : (ns : List ℕ) → AllSmall ns → (ns ≡ [] → ⊥) → numbers (listed_by true ns) ≡ ns
+numbers_added [] h some = absurd (some refl)
+numbers_added (n ∷ ns) h some =
+    ap (λ b. if b then numbers_from 0 (decimal n ++ listed ns) else []) (listed_by_numeric true (n ∷ ns) h)
+    ∙ numbers_decimal n (omega (arith, h.0)) (listed ns) ∙ numbers_listed n ns h.0 h.1
+
+pub rendition_some : (ns : List ℕ) → (ns ≡ [] → ⊥) → rendition ns ≡ SGR ns
+rendition_some [] some = absurd (some refl)
+rendition_some (n ∷ ns) some = refl
 
 -- ---- no question
 
@@ -207,14 +251,3 @@ quiet_sequence ps final h a b c rest =
     all_append is_other ps (final ∷ []) (weaker is_parameter is_other other_parameter ps h) (and_from (is_other final) true c refl) in
     let begun : starts (54 ∷ 110 ∷ []) ((ps ++ final ∷ []) ++ rest) ≡ false = ap (starts (54 ∷ 110 ∷ [])) same ∙ not_begun ps rest final h a b in
     ap (λ x. one_more x (asked ((ps ++ final ∷ []) ++ rest))) begun ∙ quiet_others (ps ++ final ∷ []) others rest
-
--- the sequence of a pen, appended piece by piece
-pub spelled_in_pieces : (old a b c d e f g h k : List ℕ) (s0 s1 s2 s3 s4 s5 s6 s7 s8 s9 s10 : List ℕ) → s0 ≡ old ++ 27 ∷ 91 ∷ 48 ∷ []
-    → s1 ≡ s0 ++ listed a → s2 ≡ s1 ++ listed b → s3 ≡ s2 ++ listed c → s4 ≡ s3 ++ listed d → s5 ≡ s4 ++ listed e → s6 ≡ s5 ++ listed f
-    → s7 ≡ s6 ++ listed g → s8 ≡ s7 ++ listed h → s9 ≡ s8 ++ listed k → s10 ≡ s9 ++ 109 ∷ []
-    → s10 ≡ old ++ (27 ∷ 91 ∷ 48 ∷ listed (((((((a ++ b) ++ c) ++ d) ++ e) ++ f) ++ g) ++ h ++ k) ++ 109 ∷ [])
-spelled_in_pieces old a b c d e f g h k s0 s1 s2 s3 s4 s5 s6 s7 s8 s9 s10 e0 e1 e2 e3 e4 e5 e6 e7 e8 e9 e10 =
-    let head : List ℕ = 27 ∷ 91 ∷ 48 ∷ [] in
-    let all = ((((((a ++ b) ++ c) ++ d) ++ e) ++ f) ++ g) ++ h ++ k in
-    let nine : s9 ≡ (old ++ head) ++ listed all = rw (e9, e8, e7, e6, e5, e4, e3, e2, e1, e0) (listed_nine (old ++ head) a b c d e f g h k) in
-    e10 ∙ ap (λ x. x ++ 109 ∷ []) nine ∙ append_assoc (old ++ head) (listed all) (109 ∷ []) ∙ append_assoc old head (listed all ++ 109 ∷ [])

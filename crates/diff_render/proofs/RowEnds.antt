@@ -114,7 +114,7 @@ erased_is_new old new end cols long_old long_new within blanks whole =
 
 -- what is left is erased
 pub row_erased : (w v a b x : Writer) (old new : List Cell) (end : ℕ) → length old ≡ w.cols → length new ≡ w.cols → end < length new → IsBlankFrom end new → IsWhole new
-    → pointwise same_cell (drop end old) (drop end new) ≡ false → RowSoFar w v old new end → Moves v a v.row end v.pen 7 → Moves a b a.row a.col plain 4 → Erases b x
+    → pointwise same_cell (drop end old) (drop end new) ≡ false → RowSoFar w v old new end → Moves v a v.row end v.pen 7 → Moves a b a.row a.col plain 3 → Erases b x
     → RowSoFar w x old new (length new)
 row_erased w v a b x old new end long_old long_new within blanks whole differ so_far goes takes erases =
     let same = same_then w v x so_far.same (same_then v a x goes.same (same_then a b x takes.same erases.same)) in

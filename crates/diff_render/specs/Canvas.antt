@@ -8,6 +8,7 @@ use Rattle.cell_grid.specs.Grid.{blank_rows}
 use Rattle.term_model.specs.Controls.{Control, Print, between, controls_from}
 use Rattle.term_model.specs.Obeying.{act, acted, line_of, wrapped, width_of, chars_of}
 use Rattle.term_model.specs.Term.{Term}
+use Rattle.diff_render.specs.Pieces.{IsMade}
 
 -- the lines from the base line on, as many as there are of a drawing, the cursor's row among them, its column, and the pen
 pub record Canvas : Type 0 where
@@ -121,10 +122,11 @@ abbrev pub Does : ℕ → ℕ → List Control → Canvas → Canvas → Type 0
 Does rows cols controls from to =
     (t : Term) (base : ℕ) → IsBase t base rows cols → (x : Term) → On t base from x → On t base to (acted x controls)
 
--- bytes that turn one canvas into another, and print no cell but at places that pass
+-- bytes of pieces that turn one canvas into another, and print no cell but at places that pass
 pub record Draws (rows cols : ℕ) (ok : ℕ → ℕ → Bool) (bytes : List ℕ) (from to : Canvas) : Type 0 where
   pub controls : List Control
   pub spells : Spells bytes controls
   pub quiet : IsQuiet bytes
+  pub made : IsMade bytes
   pub stands : Does rows cols controls from to
   pub touches : (t : Term) (base : ℕ) → IsBase t base rows cols → (x : Term) → On t base from x → Touches ok x base controls

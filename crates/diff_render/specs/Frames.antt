@@ -9,6 +9,7 @@ use Rattle.term_model.specs.Term.{Term, IsTerminal}
 use Rattle.term_model.specs.Obeying.{forgotten, line_of, obeyed_bytes}
 use Rattle.diff_render.specs.Canvas.{top_for, reads, Spells, question, asked, Touches}
 use Rattle.diff_render.specs.Changes.{is_changed, changed_rows}
+use Rattle.diff_render.specs.Pieces.{IsMade}
 use Rattle.diff_render.specs.declared.shown.OnScreen.{OnScreen}
 use Rattle.diff_render.specs.declared.shown.OnScreen.TheVariants.{Nothing, Drawn, Resized}
 
@@ -141,12 +142,13 @@ IsOnScreen (Resized row) drawing = ⊥
 -- ---- all of it
 
 -- what a frame is: it shows the drawing, prints only where places change, is short, asks exactly where it has to, is empty where the
--- drawing is on the screen already and the prompt goes on, and ends between characters and between control sequences: it reads as the
--- same whatever comes behind it
+-- drawing is on the screen already and the prompt goes on, is made of characters of cells and of a few control functions and nothing
+-- else, and reads as the same whatever comes behind it
 pub record IsFrame (size : Extent) (screen : OnScreen) (drawing : Drawing) (done ask : Bool) (frame : List ℕ) : Type 0 where
   pub shows : Shows size screen drawing done frame
   pub touches : TouchesChanges size screen drawing frame
   pub short : length frame ≤ 100 + 128 * changed_places size screen drawing + 16 * height_of screen drawing
   pub asks : AsksWhere (has_to_ask screen done ask) size screen frame
   pub unchanged : IsOnScreen screen drawing → done ≡ false → frame ≡ []
+  pub made : IsMade frame
   pub ends : Spells frame (reads frame)

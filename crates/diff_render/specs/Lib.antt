@@ -3,6 +3,7 @@ pub mod Changes
 pub mod Fits
 pub mod Frames
 pub mod Opening
+pub mod Pieces
 pub mod Redrawing
 pub mod Redrawn
 pub mod ScreenFields

@@ -10,7 +10,7 @@ climb n = if nat_lt 0 n then arrow n 65 else []
 -- CR, a plain pen, all erased from here on, autowrap off, bracketed paste on, and the cursor visible
 abbrev pub opening : List ℕ
 opening =
-    13 ∷ 27 ∷ 91 ∷ 48 ∷ 109 ∷ 27 ∷ 91 ∷ 74 ∷ 27 ∷ 91 ∷ 63 ∷ 55 ∷ 108 ∷ 27 ∷ 91 ∷ 63 ∷ 50 ∷ 48 ∷ 48 ∷ 52 ∷ 104 ∷ 27 ∷ 91 ∷ 63 ∷ 50 ∷ 53 ∷ 104 ∷ []
+    13 ∷ 27 ∷ 91 ∷ 109 ∷ 27 ∷ 91 ∷ 74 ∷ 27 ∷ 91 ∷ 63 ∷ 55 ∷ 108 ∷ 27 ∷ 91 ∷ 63 ∷ 50 ∷ 48 ∷ 48 ∷ 52 ∷ 104 ∷ 27 ∷ 91 ∷ 63 ∷ 50 ∷ 53 ∷ 104 ∷ []
 
 -- the question, where it is asked
 abbrev pub asking : Bool → List ℕ

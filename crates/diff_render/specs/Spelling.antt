@@ -1,5 +1,5 @@
 -- The bytes of the control sequences of a frame (ECMA-48, 5.4; xterm for the colours).
-use Rattle.std.specs.Prelude.{ℕ, ◌+◌, ◌≤◌, Bool, true, false, List, [], ◌∷◌, ◌++◌, Option, Some, None, nat_lt, if◌then◌else◌}
+use Rattle.std.specs.Prelude.{ℕ, ◌+◌, ◌≤◌, Bool, true, false, List, [], ◌∷◌, ◌++◌, Option, Some, None, ◌||◌, nat_lt, if◌then◌else◌}
 use Rattle.std.specs.Fmt.{decimal}
 use Rattle.cell_grid.specs.declared.attrs.Attrs.{Attrs}
 use Rattle.cell_grid.specs.declared.attrs.Colour.{Colour}
@@ -25,15 +25,45 @@ coloured base None = []
 coloured base (Some (Ansi n)) = (if nat_lt n 8 then base + n else base + 52 + n) ∷ []
 coloured base (Some (Rgb r g b)) = (base + 8) ∷ 2 ∷ r ∷ g ∷ b ∷ []
 
--- the numbers of attributes, behind the 0 that makes the pen plain
+-- the numbers of attributes
 abbrev pub numbers_of : Attrs → List ℕ
 numbers_of pen =
     flagged 1 pen.bold ++ flagged 3 pen.italic ++ flagged 4 pen.underline ++ flagged 5 pen.blink ++ flagged 7 pen.reverse ++ flagged 8 pen.hidden
     ++ flagged 9 pen.strike ++ coloured 30 pen.fg ++ coloured 40 pen.bg
 
--- the pen that is set from whatever it was
-abbrev pub spelled_pen : Attrs → List ℕ
-spelled_pen pen = 27 ∷ 91 ∷ 48 ∷ listed (numbers_of pen) ++ 109 ∷ []
+-- numbers, each behind a separator, but for the first one of all where it is the first of the sequence
+abbrev pub listed_by : Bool → List ℕ → List ℕ
+listed_by first [] = []
+listed_by true (n ∷ ns) = decimal n ++ listed ns
+listed_by false (n ∷ ns) = listed (n ∷ ns)
+
+-- whether the next number is the first of the sequence
+abbrev pub still_first : Bool → List ℕ → Bool
+still_first first [] = first
+still_first first (n ∷ ns) = false
+
+-- the sequence of some attributes: it adds them to the pen, or an empty number before them, which is a 0, makes the pen plain first
+abbrev pub spelled_pen : Bool → Attrs → List ℕ
+spelled_pen adds pen = 27 ∷ 91 ∷ listed_by adds (numbers_of pen) ++ 109 ∷ []
+
+-- a colour, or the one before where there is none
+abbrev pub colour_over : Option Colour → Option Colour → Option Colour
+colour_over None old = old
+colour_over (Some colour) old = Some colour
+
+-- a pen with some attributes beside its own
+abbrev pub joined : Attrs → Attrs → Attrs
+joined pen more = record {
+  fg = colour_over more.fg pen.fg;
+  bg = colour_over more.bg pen.bg;
+  bold = more.bold || pen.bold;
+  italic = more.italic || pen.italic;
+  underline = more.underline || pen.underline;
+  blink = more.blink || pen.blink;
+  reverse = more.reverse || pen.reverse;
+  hidden = more.hidden || pen.hidden;
+  strike = more.strike || pen.strike;
+}
 
 -- the numbers of a direct colour are bytes
 abbrev pub IsByteColour : Option Colour → Type 0

@@ -11,6 +11,7 @@ use Rattle.diff_render.specs.Canvas.{canvas_of, IsBase, On, reads, Spells, IsQui
 use Rattle.diff_render.specs.Changes.{changed_rows}
 use Rattle.diff_render.specs.Frames.{put, Agree}
 use Rattle.diff_render.specs.Opening.{opening_of}
+use Rattle.diff_render.specs.Pieces.{IsMade}
 use Rattle.diff_render.specs.Redrawn.{MayTouchRows}
 use Rattle.diff_render.specs.Writer.{written, Moves}
 use Rattle.diff_render.specs.declared.writer.Writer.{Writer}
@@ -22,13 +23,14 @@ closing = 13 ∷ 10 ∷ 27 ∷ 91 ∷ 63 ∷ 55 ∷ 104 ∷ 27 ∷ 91 ∷ 63 ∷
 -- a writer goes to the last row of a drawing of so many, and then the prompt is closed
 pub record Closes (w v : Writer) (rows : ℕ) : Type 0 where
   pub middle : Writer
-  pub moves : Moves w middle (rows - 1) w.col plain (rows - 1 - w.row + 10)
+  pub moves : Moves w middle (rows - 1) w.col plain (rows - 1 - w.row + 9)
   pub wrote : written v ≡ written middle ++ closing
 
 -- bytes that make the rows from the base line on, with the cursor at a place and a plain pen, a drawing, finished or not
 pub record Turns (rows cols : ℕ) (old : List (List Cell)) (row col : ℕ) (drawing : Drawing) (done : Bool) (bytes : List ℕ) : Type 0 where
   pub reading : Spells bytes (reads bytes)
   pub quiet : IsQuiet bytes
+  pub made : IsMade bytes
   pub shows : (t : Term) (base : ℕ) → IsBase t base rows cols → base + length old ≤ t.top + t.rows → (x : Term) → On t base (canvas_of old row col plain) x
       → Agree (acted x (reads bytes)) (put t base drawing done)
   pub touches : (ok : ℕ → ℕ → Bool) → MayTouchRows ok old drawing.grid → (t : Term) (base : ℕ) → IsBase t base rows cols → (x : Term)

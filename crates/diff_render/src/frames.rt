@@ -26,7 +26,7 @@ fn opening(alloc: Global, up: u32, asks: bool) -> Result<String, AllocError>
     if up > 0 {
         push_arrow(&mut out, up, 'A')?;
     }
-    out.push_str("\r\x1b[0m\x1b[J\x1b[?7l\x1b[?2004h\x1b[?25h")?;
+    out.push_str("\r\x1b[m\x1b[J\x1b[?7l\x1b[?2004h\x1b[?25h")?;
     if asks {
         out.push_str("\x1b[6n")?;
     }
@@ -38,7 +38,7 @@ fn settle(w: &mut Writer, row: u32, col: u32) -> Result<(), AllocError>
     requires placed { IsPlaced w.old }
     requires in_rows { row < w.old.height }
     requires in_cols { col < w.old.cols }
-    ensures { OnOk result (Moves w.old w.new row col plain (row - w.old.row + 17)) }
+    ensures { OnOk result (Moves w.old w.new row col plain (row - w.old.row + 16)) }
 {
     w.go_row(row)?;
     w.go_col(col)?;

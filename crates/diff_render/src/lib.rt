@@ -4,6 +4,7 @@
 mod frames;
 mod lines;
 mod moving;
+mod pens;
 mod rows;
 mod shown;
 mod spelling;

@@ -4,6 +4,7 @@ ghost use Rattle.cell_grid.specs.Attrs.{plain};
 ghost use Rattle.cell_grid.specs.Drawable.{IsPen};
 ghost use Rattle.diff_render.specs.Writer.{IsPlaced, Moves};
 
+use crate::pens::{joined, lacking};
 use crate::writer::Writer;
 use cell_grid::Attrs;
 use std::alloc::AllocError;
@@ -89,10 +90,25 @@ impl Writer {
     /// Takes the plain pen.
     pub(crate) fn use_plain_pen(&mut self) -> Result<(), AllocError>
         requires { IsPlaced self.old }
-        ensures { OnOk result (Moves self.old self.new self.old.row self.old.col plain 4) }
+        ensures { OnOk result (Moves self.old self.new self.old.row self.old.col plain 3) }
     {
         if self.pen != Attrs::plain() {
             self.take_plain_pen()?;
+        }
+        Ok(())
+    }
+
+    /// Takes a pen that is another one.
+    fn change_pen(&mut self, pen: &Attrs) -> Result<(), AllocError>
+        requires placed { IsPlaced self.old }
+        requires pen { IsPen pen.now }
+        ensures { OnOk result (Moves self.old self.new self.old.row self.old.col pen.now 52) }
+    {
+        let more = lacking(&self.pen, pen);
+        if more != Attrs::plain() && joined(&self.pen, &more) == *pen {
+            self.add_pen(&more, pen)?;
+        } else {
+            self.take_pen(pen)?;
         }
         Ok(())
     }
@@ -103,10 +119,8 @@ impl Writer {
         requires pen { IsPen pen.now }
         ensures { OnOk result (Moves self.old self.new self.old.row self.old.col pen.now 52) }
     {
-        if *pen == Attrs::plain() {
-            self.use_plain_pen()?;
-        } else if *pen != self.pen {
-            self.take_pen(pen)?;
+        if *pen != self.pen {
+            self.change_pen(pen)?;
         }
         Ok(())
     }

@@ -1,9 +1,9 @@
 //! How control sequences are spelled.
-ghost use Rattle.std.specs.Prelude.{◌≡◌, ◌++◌, ◌∷◌, ◌≤◌, [], OnOk, true, encode_utf8, encode_utf8_all};
+ghost use Rattle.std.specs.Prelude.{◌≡◌, ◌++◌, ◌∷◌, ◌≤◌, [], IfOk, OnOk, true, encode_utf8, encode_utf8_all};
 ghost use lib.Utf8.{scalar, scalars};
 ghost use Rattle.std.specs.Fmt.{decimal};
 ghost use Rattle.std.specs.String.{string_bytes};
-ghost use Rattle.diff_render.specs.Spelling.{arrow, flagged, coloured, listed, spelled_pen, IsByteColour, IsBytePen};
+ghost use Rattle.diff_render.specs.Spelling.{arrow, flagged, coloured, listed_by, spelled_pen, still_first, IsByteColour, IsBytePen};
 
 use cell_grid::{Attrs, Colour};
 use std::alloc::AllocError;
@@ -28,61 +28,77 @@ pub(crate) fn push_arrow(out: &mut String, n: u32, letter: char) -> Result<(), A
     out.push(letter)
 }
 
-/// Appends a separator and a number.
-fn push_listed(out: &mut String, n: u32) -> Result<(), AllocError>
-    ensures { OnOk result (string_bytes out.new ≡ string_bytes out.old ++ listed (n ∷ [])) }
+/// Appends a number, behind a separator where it is not the first.
+fn push_listed(out: &mut String, first: bool, n: u32) -> Result<(), AllocError>
+    ensures { OnOk result (string_bytes out.new ≡ string_bytes out.old ++ listed_by first (n ∷ [])) }
 {
-    out.push(';')?;
+    if !first {
+        out.push(';')?;
+    }
     push_number(out, n)
 }
 
-/// Appends a number, where it is wanted.
-fn push_flag(out: &mut String, n: u32, wanted: bool) -> Result<(), AllocError>
-    ensures { OnOk result (string_bytes out.new ≡ string_bytes out.old ++ listed (flagged n wanted)) }
+/// Appends a number, where it is wanted, and tells whether the next one is the first.
+fn push_flag(out: &mut String, first: bool, n: u32, wanted: bool) -> Result<bool, AllocError>
+    ensures spelled { OnOk result (string_bytes out.new ≡ string_bytes out.old ++ listed_by first (flagged n wanted)) }
+    ensures still { IfOk result (λ still. still ≡ still_first first (flagged n wanted)) }
 {
-    if wanted { push_listed(out, n) } else { Ok(()) }
+    if !wanted {
+        return Ok(first);
+    }
+    push_listed(out, first, n)?;
+    Ok(false)
 }
 
-/// Appends the numbers of a colour. `base` is 30 for a character and 40 for its background.
-fn push_colour(out: &mut String, base: u32, colour: Option<Colour>) -> Result<(), AllocError>
+/// Appends the numbers of a colour, and tells whether the next one is the first. `base` is 30 for a
+/// character and 40 for its background.
+fn push_colour(
+    out: &mut String,
+    first: bool,
+    base: u32,
+    colour: Option<Colour>,
+) -> Result<bool, AllocError>
     requires { base ≤ 40 }
-    ensures spelled { OnOk result (string_bytes out.new ≡ string_bytes out.old ++ listed (coloured base colour)) }
+    ensures spelled { OnOk result (string_bytes out.new ≡ string_bytes out.old ++ listed_by first (coloured base colour)) }
+    ensures still { IfOk result (λ still. still ≡ still_first first (coloured base colour)) }
     ensures bytes { OnOk result (IsByteColour colour) }
 {
     match colour {
-        None => Ok(()),
+        None => Ok(first),
         Some(Colour::Ansi(n)) => {
             if n < 8 {
-                push_listed(out, base + u32::from(n))
+                push_listed(out, first, base + u32::from(n))?;
             } else {
-                push_listed(out, base + 52 + u32::from(n))
+                push_listed(out, first, base + 52 + u32::from(n))?;
             }
+            Ok(false)
         }
         Some(Colour::Rgb(r, g, b)) => {
-            push_listed(out, base + 8)?;
-            push_listed(out, 2)?;
-            push_listed(out, u32::from(r))?;
-            push_listed(out, u32::from(g))?;
-            push_listed(out, u32::from(b))
+            push_listed(out, first, base + 8)?;
+            push_listed(out, false, 2)?;
+            push_listed(out, false, u32::from(r))?;
+            push_listed(out, false, u32::from(g))?;
+            push_listed(out, false, u32::from(b))?;
+            Ok(false)
         }
     }
 }
 
-/// Appends the sequence that sets the pen, whatever it was.
-pub(crate) fn push_pen(out: &mut String, pen: &Attrs) -> Result<(), AllocError>
-    ensures spelled { OnOk result (string_bytes out.new ≡ string_bytes out.old ++ spelled_pen pen.now) }
+/// Appends the sequence that adds attributes to a pen, or that makes a pen of them alone.
+pub(crate) fn push_pen(out: &mut String, adds: bool, pen: &Attrs) -> Result<(), AllocError>
+    ensures spelled { OnOk result (string_bytes out.new ≡ string_bytes out.old ++ spelled_pen adds pen.now) }
     ensures bytes { OnOk result (IsBytePen pen.now) }
 {
-    out.push_str("\x1b[0")?;
-    push_flag(out, 1, pen.bold)?;
-    push_flag(out, 3, pen.italic)?;
-    push_flag(out, 4, pen.underline)?;
-    push_flag(out, 5, pen.blink)?;
-    push_flag(out, 7, pen.reverse)?;
-    push_flag(out, 8, pen.hidden)?;
-    push_flag(out, 9, pen.strike)?;
-    push_colour(out, 30, pen.fg)?;
-    push_colour(out, 40, pen.bg)?;
+    out.push_str("\x1b[")?;
+    let first = push_flag(out, adds, 1, pen.bold)?;
+    let first = push_flag(out, first, 3, pen.italic)?;
+    let first = push_flag(out, first, 4, pen.underline)?;
+    let first = push_flag(out, first, 5, pen.blink)?;
+    let first = push_flag(out, first, 7, pen.reverse)?;
+    let first = push_flag(out, first, 8, pen.hidden)?;
+    let first = push_flag(out, first, 9, pen.strike)?;
+    let first = push_colour(out, first, 30, pen.fg)?;
+    let _first = push_colour(out, first, 40, pen.bg)?;
     out.push('m')?;
     Ok(())
 }

@@ -99,7 +99,7 @@ fn begins_and_ends_a_prompt(rt: HostRuntime) -> Result<(), Fail> {
     let prompt = plain_drawing(alloc, &[">"], 0, 2)?;
     let mut shown = Shown::nothing();
     let first = frame_of(alloc, &mut shown, &prompt, size, false, true)?;
-    let opening = "\r\x1b[0m\x1b[J\x1b[?7l\x1b[?2004h\x1b[?25h\x1b[6n>\x1b[C";
+    let opening = "\r\x1b[m\x1b[J\x1b[?7l\x1b[?2004h\x1b[?25h\x1b[6n>\x1b[C";
     assert!(rt; first.as_slice() == opening.as_bytes());
     let second = frame_of(alloc, &mut shown, &prompt, size, false, true)?;
     assert!(rt; second.is_empty());

@@ -1,9 +1,10 @@
 //! A writer of a frame's bytes, which knows the row, the column and the pen that the terminal has
 //! after them, and leads it on step by step.
-ghost use Rattle.std.specs.Prelude.{◌≡◌, ◌+◌, ◌-◌, ◌<◌, ◌≤◌, ◌⊎◌, max, OnOk};
+ghost use Rattle.std.specs.Prelude.{◌≡◌, ◌+◌, ◌-◌, ◌<◌, ◌≤◌, ◌⊎◌, OnOk};
 ghost use Rattle.cell_grid.specs.declared.cell.Cell.TheVariants.{Lead};
 ghost use Rattle.cell_grid.specs.Attrs.{plain};
 ghost use Rattle.cell_grid.specs.Drawable.{IsCharacter, IsPen};
+ghost use Rattle.diff_render.specs.Spelling.{joined};
 ghost use Rattle.diff_render.specs.Writer.{IsPlaced, Moves, Grows, Writes, Erases, ErasesBelow};
 
 use crate::spelling::{push_arrow, push_pen, push_text};
@@ -97,13 +98,26 @@ impl Writer {
         Ok(())
     }
 
+    /// Takes a pen that has attributes beside those of this one.
+    pub(crate) fn add_pen(&mut self, more: &Attrs, pen: &Attrs) -> Result<(), AllocError>
+        requires placed { IsPlaced self.old }
+        requires pen { IsPen more.now }
+        requires some { more.now ≡ plain → ⊥ }
+        requires joined { joined self.old.pen more.now ≡ pen.now }
+        ensures { OnOk result (Moves self.old self.new self.old.row self.old.col pen.now 52) }
+    {
+        push_pen(&mut self.out, true, more)?;
+        self.pen = *pen;
+        Ok(())
+    }
+
     /// Takes a pen, whatever it has.
     pub(crate) fn take_pen(&mut self, pen: &Attrs) -> Result<(), AllocError>
         requires placed { IsPlaced self.old }
         requires pen { IsPen pen.now }
         ensures { OnOk result (Moves self.old self.new self.old.row self.old.col pen.now 52) }
     {
-        push_pen(&mut self.out, pen)?;
+        push_pen(&mut self.out, false, pen)?;
         self.pen = *pen;
         Ok(())
     }
@@ -111,9 +125,9 @@ impl Writer {
     /// Takes the plain pen, whatever it has.
     pub(crate) fn take_plain_pen(&mut self) -> Result<(), AllocError>
         requires { IsPlaced self.old }
-        ensures { OnOk result (Moves self.old self.new self.old.row self.old.col plain 4) }
+        ensures { OnOk result (Moves self.old self.new self.old.row self.old.col plain 3) }
     {
-        self.out.push_str("\x1b[0m")?;
+        self.out.push_str("\x1b[m")?;
         self.pen = Attrs::plain();
         Ok(())
     }
