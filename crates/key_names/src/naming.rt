@@ -1,5 +1,6 @@
 //! The names of keys, read and written.
-ghost use Rattle.std.specs.Prelude.{◌≡◌, ◌≢◌, ◌↔◌, [], ◌∷◌, ℕ, ◌==◌, ◌&&◌, not, IsSome, IfSome, IfNone, IfOk, IsErr, IsTrue};
+ghost use Rattle.std.specs.Prelude.{◌≡◌, ◌≢◌, ◌↔◌, [], ◌∷◌, ℕ, ◌==◌, ◌&&◌, not, IsSome, IfSome, IfNone, IfOk, IsErr};
+ghost use Rattle.std.specs.Prelude.{IsTrue};
 ghost use Rattle.std.specs.Option.{option_copied};
 ghost use Rattle.std.specs.Str.{chars};
 ghost use Rattle.key_names.specs.declared.key.Key.{Key};

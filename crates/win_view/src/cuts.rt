@@ -7,8 +7,8 @@ ghost use Rattle.win_view.specs.Views.{attrs_of, columns_from, half_of, spaced_e
 
 use cell_grid::{Attrs, Cell, Grid};
 
-/// Lays the columns of a line from `across` on, at most `width` of them, into a row of a grid. A half of a wide character is a
-/// space with its attributes. Returns how many they are.
+/// Lays the columns of a line from `across` on, at most `width` of them, into a row of a grid. A half of a wide
+/// character is a space with its attributes. Returns how many they are.
 pub fn lay_columns(
     line: &[Cell],
     across: usize,
@@ -61,8 +61,8 @@ fn half_of(attrs: Attrs) -> Cell
     Cell::narrow(' ', attrs)
 }
 
-/// Lays cells of which a half may stand at either end. A Tail at the start, whose Lead is cut off, is a space with these
-/// attributes, the Lead's.
+/// Lays cells of which a half may stand at either end. A Tail at the start, whose Lead is cut off, is a space with
+/// these attributes, the Lead's.
 fn lay_cut(cells: &[Cell], attrs: Attrs, row: u32, col: u32, grid: &mut Grid)
     requires whole { IsWhole (spaced_end (spaced_start attrs cells.now)) }
     requires row_within { row < length grid.old }
@@ -82,7 +82,8 @@ fn lay_cut(cells: &[Cell], attrs: Attrs, row: u32, col: u32, grid: &mut Grid)
     lay_front(cells, row, col, grid);
 }
 
-/// Lays cells of which a half may stand at the end: a wide Lead there, whose Tail is cut off, is a space with its attributes.
+/// Lays cells of which a half may stand at the end: a wide Lead there, whose Tail is cut off, is a space with its
+/// attributes.
 fn lay_front(cells: &[Cell], row: u32, col: u32, grid: &mut Grid)
     requires whole { IsWhole (spaced_end cells.now) }
     requires row_within { row < length grid.old }

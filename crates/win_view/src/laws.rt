@@ -13,8 +13,8 @@ ghost use Rattle.win_view.specs.Scroll.{scrolled};
 ghost use Rattle.win_view.specs.Settling.{settled};
 ghost use Rattle.win_view.specs.Views.{viewed, window_rows};
 
-/// The rows of a line are its cells in their order, and each of them is as long as can be: a row parts no wide character, is not
-/// longer than the width, and has no room for the character behind it.
+/// The rows of a line are its cells in their order, and each of them is as long as can be: a row parts no wide
+/// character, is not longer than the width, and has no room for the character behind it.
 pub fn rows_are_greedy()
     ensures joined { (width : ℕ) (cells : List Cell)
         → flat_map (λ row. row) (rows_of width cells) ≡ holdable width cells }

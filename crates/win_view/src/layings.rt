@@ -22,7 +22,8 @@ pub struct Laying {
 }
 
 impl Laying {
-    ghost use Rattle.std.specs.Prelude.{◌≡◌, ◌+◌, ◌-◌, ◌<◌, ◌≤◌, ◌↔◌, IfOk, IsTrue, drop, flat_map, fold, length, map, replicate, slice_set};
+    ghost use Rattle.std.specs.Prelude.{◌≡◌, ◌+◌, ◌-◌, ◌<◌, ◌≤◌, ◌↔◌, IfOk, IsTrue, drop, flat_map, fold, length, map};
+    ghost use Rattle.std.specs.Prelude.{replicate, slice_set};
     ghost use Rattle.std.specs.List.{All};
     ghost use Rattle.cell_grid.specs.Grid.{blitted, columns, row_at};
     ghost use Rattle.cell_grid.specs.Row.{IsWhole, laid_at};

@@ -9,9 +9,9 @@ pub struct Scroll {
     pub across: u32,
 }
 
-/// Returns the scroll at which a window of this many rows (or columns) shows the cursor, as near to the old one as can be.
-/// The content has `content` of them. So many as `offset` stay before and behind the cursor, as far as there are so many and
-/// half of the window has room for them.
+/// Returns the scroll at which a window of this many rows (or columns) shows the cursor, as near to the old one as can
+/// be. The content has `content` of them. So many as `offset` stay before and behind the cursor, as far as there are so
+/// many and half of the window has room for them.
 pub fn scroll_to(old: u32, offset: u32, cursor: u32, window: u32, content: u32) -> u32
     requires cursor { cursor < content }
     requires window { 1 ≤ window }

@@ -8,8 +8,8 @@ use crate::{Content, Scroll, height, scroll_to};
 use cell_grid::{NoMemory, Size};
 use std::alloc::Global;
 
-/// Returns the scroll at which a window of this size shows the content's cursor, as near to the old one as can be. Where lines
-/// wrap, it goes down alone. It takes no memory, so it never fails.
+/// Returns the scroll at which a window of this size shows the content's cursor, as near to the old one as can be.
+/// Where lines wrap, it goes down alone. It takes no memory, so it never fails.
 pub fn settle(
     _alloc: Global,
     content: &Content,

@@ -13,10 +13,10 @@ use crate::{Content, Scroll, Viewport};
 use cell_grid::{CellRow, Grid, NoMemory};
 use std::alloc::Global;
 
-/// Shows a content in a part of a grid, from this scroll on, in one walk over the cells of the part. A half of a wide character
-/// of the grid that stays uncovered becomes blank. Each row of the window is as wide as the part and parts no wide character.
-/// It takes memory for one row of spaces alone, and where there is none the grid stays as it was. The rows above the window are
-/// counted, and not built.
+/// Shows a content in a part of a grid, from this scroll on, in one walk over the cells of the part. A half of a wide
+/// character of the grid that stays uncovered becomes blank. Each row of the window is as wide as the part and parts no
+/// wide character. It takes memory for one row of spaces alone, and where there is none the grid stays as it was. The
+/// rows above the window are counted, and not built.
 pub fn show(
     alloc: Global,
     content: &Content,

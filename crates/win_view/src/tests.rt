@@ -197,8 +197,8 @@ fn settles_down_and_across(rt: HostRuntime) -> Result<(), Fail> {
     Ok(())
 }
 
-// What a window shows: the cursor's line and cell, the window's rows and columns, the scroll, and then the rows, each as its
-// bold and its plain characters, and the cursor.
+// What a window shows: the cursor's line and cell, the window's rows and columns, the scroll, and then the rows, each
+// as its bold and its plain characters, and the cursor.
 type Shown = (
     bool,
     (usize, usize),
@@ -320,8 +320,8 @@ fn views_of_a_window(rt: HostRuntime) -> Result<(), Fail> {
     Ok(())
 }
 
-// What a part of a grid shows: whether lines wrap, the lines, the scroll, and the part's rows, each as its bold characters and
-// the spaces behind them.
+// What a part of a grid shows: whether lines wrap, the lines, the scroll, and the part's rows, each as its bold
+// characters and the spaces behind them.
 type Part = (
     bool,
     &'static [&'static str],

@@ -17,8 +17,9 @@ pub struct WindowView {
     pub col: u32,
 }
 
-/// Returns what a window of this size shows at this scroll. Places behind the content are blank. The cursor's place is that in the
-/// content less the scroll, and 0 where the scroll is greater. The rows above the window are counted, and not built.
+/// Returns what a window of this size shows at this scroll. Places behind the content are blank. The cursor's place is
+/// that in the content less the scroll, and 0 where the scroll is greater. The rows above the window are counted, and
+/// not built.
 pub fn view(
     alloc: Global,
     content: &Content,
@@ -31,8 +32,8 @@ pub fn view(
     view_with(alloc, content, size, scroll, Attrs::plain())
 }
 
-/// Returns what a window of this size shows at this scroll, as `view` does. Places behind the content are spaces with the
-/// attributes `behind`.
+/// Returns what a window of this size shows at this scroll, as `view` does. Places behind the content are spaces with
+/// the attributes `behind`.
 pub fn view_with(
     alloc: Global,
     content: &Content,
