@@ -1,5 +1,5 @@
 -- Completions with a text of their own, by the texts that a walk has met.
-use Rattle.std.proofs.Common.{◌≡◌, ℕ, Bool, true, false, cond, not, ◌&&◌, ◌||◌, List, [], ◌∷◌, ◌++◌, filter, refl, sym, ap, ◌∙◌, arith, append_assoc}
+use Rattle.std.proofs.Common.{◌≡◌, ℕ, Bool, true, false, cond, not, ◌&&◌, ◌||◌, List, [], ◌∷◌, ◌++◌, length, filter, refl, sym, ap, ◌∙◌, arith, append_assoc}
 use Rattle.std.specs.declared.cmp.Ordering.{Ordering}
 use Rattle.std.specs.declared.cmp.Ordering.TheVariants.{Less, Equal, Greater}
 use Rattle.std.specs.Ordering.{nat_cmp, is_eq, match_ordering}
@@ -8,12 +8,14 @@ use Rattle.std.specs.BTreeSet.{insert_key}
 use Rattle.std.specs.Bool.{OnFalse}
 use Rattle.std.specs.List.{list_any}
 use Rattle.std.specs.Str.{bytes_eq}
+use Rattle.std.proofs.lemmas.Bool.{not-true, not-false}
 use Rattle.std.proofs.lemmas.Bool.Decides.{nat_tests}
+use Rattle.std.proofs.lemmas.List.{append-nil}
 use Rattle.std.proofs.lemmas.Cmp.{same_from_slice_cmp}
 use Rattle.std.proofs.lemmas.Slice.Eq.{bytes_eq-Decides}
 use Rattle.std.proofs.lemmas.List.Elements.{filter_agree}
 use Rattle.text_doc.specs.declared.completions.Completion.{Completion}
-use Rattle.completers.specs.Gathered.{first_texts, own_texts}
+use Rattle.completers.specs.Gathered.{first_texts, chosen}
 
 -- whether a text is among those of some keys
 abbrev pub known : {K : Type 0} → (K → List ℕ) → List K → List ℕ → Bool
@@ -93,22 +95,8 @@ unseen-new seen next item items new more =
     ∙ ap (λ ys. item ∷ ys) (filter-filter (λ x. not (seen x.text)) (λ x. not (bytes_eq x.text item.text)) (first_texts items)
     ∙ filter_agree _ _ (λ x. not_or (bytes_eq x.text item.text) (seen x.text) ∙ ap not (sym (more x.text))) (first_texts items))
 
-pub unseen_agree : (seen next : List ℕ → Bool) → ((t : List ℕ) → seen t ≡ next t) → (items : List Completion) → unseen seen items ≡ unseen next items
-unseen_agree seen next agree items = filter_agree _ _ (λ x. ap not (agree x.text)) (first_texts items)
-
-or_nothing : (b : Bool) → (b || false) ≡ b
-or_nothing true = refl
-or_nothing false = refl
-
--- a walk begins with what is typed as the one text that it has met
-pub walk_begins : {K : Type 0} (text : K → List ℕ) (key : K) (typed : List ℕ) (keys : List K) (items : List Completion)
-    → keys ≡ key ∷ [] → text key ≡ typed → unseen (known text keys) items ≡ own_texts typed items
-walk_begins text key typed keys items is same =
-    ap (λ ks. unseen (known text ks) items) is
-    ∙ unseen_agree (known text (key ∷ [])) (λ t. bytes_eq t typed) (λ t. or_nothing (bytes_eq t (text key)) ∙ ap (bytes_eq t) same) items
-
--- it goes on with an item whose text it had not met
-pub walk_keeps : {K : Type 0} (cmp : K → K → Ordering) (text : K → List ℕ) → ((a b : K) → is_eq (cmp a b) ≡ bytes_eq (text a) (text b))
+-- a walk goes on with an item whose text it had not met
+walk_keeps : {K : Type 0} (cmp : K → K → Ordering) (text : K → List ℕ) → ((a b : K) → is_eq (cmp a b) ≡ bytes_eq (text a) (text b))
     → (kept more : List Completion) (item : Completion) (items : List Completion) (whole : List Completion) (keys next : List K) (key : K)
     → text key ≡ item.text → next ≡ insert_key cmp keys key → list_any (λ k. is_eq (cmp key k)) keys ≡ false → more ≡ kept ++ item ∷ []
     → kept ++ unseen (known text keys) (item ∷ items) ≡ whole → more ++ unseen (known text next) items ≡ whole
@@ -120,7 +108,7 @@ walk_keeps cmp text agree kept more item items whole keys next key same put new 
     ∙ sym (ap (λ ys. kept ++ ys) (unseen-new (known text keys) (known text next) item items unmet grown)) ∙ before
 
 -- and leaves out another one
-pub walk_skips : {K : Type 0} (cmp : K → K → Ordering) (text : K → List ℕ) → ((a b : K) → is_eq (cmp a b) ≡ bytes_eq (text a) (text b))
+walk_skips : {K : Type 0} (cmp : K → K → Ordering) (text : K → List ℕ) → ((a b : K) → is_eq (cmp a b) ≡ bytes_eq (text a) (text b))
     → (kept : List Completion) (item : Completion) (items : List Completion) (whole : List Completion) (keys next : List K) (key : K)
     → text key ≡ item.text → next ≡ keys → list_any (λ k. is_eq (cmp key k)) keys ≡ true
     → kept ++ unseen (known text keys) (item ∷ items) ≡ whole → kept ++ unseen (known text next) items ≡ whole
@@ -129,7 +117,24 @@ walk_skips cmp text agree kept item items whole keys next key same unchanged the
     ap (λ ks. kept ++ unseen (known text ks) items) unchanged
     ∙ sym (ap (λ ys. kept ++ ys) (unseen-met (known text keys) item items met)) ∙ before
 
--- what holds where a test fails, where it fails
-pub on_false : {K : Type 0} (b : Bool) (xs ys : List K) → b ≡ false → OnFalse b (xs ≡ ys) → xs ≡ ys
-on_false true xs ys fails is = cc
-on_false false xs ys fails is = is
+-- the next choice is behind the others
+pub chosen_more : (choices : List Bool) (items : List Completion) (choice : Bool) (item : Completion) → length choices ≡ length items
+    → chosen (choices ++ choice ∷ []) (items ++ item ∷ []) ≡ chosen choices items ++ cond choice (item ∷ []) []
+chosen_more [] [] true item same = refl
+chosen_more [] [] false item same = refl
+chosen_more [] (x ∷ items) choice item same = absurd (omega (arith, same))
+chosen_more (first ∷ choices) [] choice item same = absurd (omega (arith, same))
+chosen_more (true ∷ choices) (x ∷ items) choice item same = ap (λ ys. x ∷ ys) (chosen_more choices items choice item (omega (arith, same)))
+chosen_more (false ∷ choices) (x ∷ items) choice item same = chosen_more choices items choice item (omega (arith, same))
+
+-- a walk goes on with an item, which it keeps where its text is new
+pub walk_goes : {K : Type 0} (cmp : K → K → Ordering) (text : K → List ℕ) → ((a b : K) → is_eq (cmp a b) ≡ bytes_eq (text a) (text b))
+    → (kept more : List Completion) (item : Completion) (items : List Completion) (whole : List Completion) (keys next : List K) (key : K) (is_new : Bool)
+    → text key ≡ item.text → is_new ≡ not (list_any (λ k. is_eq (cmp key k)) keys) → next ≡ insert_key cmp keys key → OnFalse is_new (next ≡ keys)
+    → more ≡ kept ++ cond is_new (item ∷ []) [] → kept ++ unseen (known text keys) (item ∷ items) ≡ whole
+    → more ++ unseen (known text next) items ≡ whole
+walk_goes cmp text agree kept more item items whole keys next key true same new put unchanged pushed before =
+    walk_keeps cmp text agree kept more item items whole keys next key same put (not-true _ (sym new)) pushed before
+walk_goes cmp text agree kept more item items whole keys next key false same new put unchanged pushed before =
+    ap (λ ys. ys ++ unseen (known text next) items) (pushed ∙ append-nil kept)
+    ∙ walk_skips cmp text agree kept item items whole keys next key same unchanged (not-false _ (sym new)) before

@@ -4,18 +4,13 @@ use Rattle.std.specs.Option.{is_some, option_to_list}
 use Rattle.std.proofs.lemmas.List.{length-append, take_all, take_more, take_at, drop_at, get_or_at}
 use Rattle.text_doc.specs.Document.{Document}
 use Rattle.text_doc.specs.declared.completions.Completion.{Completion}
-use Rattle.completers.specs.declared.options.NestedOption.{NestedOption}
 use Rattle.completers.specs.declared.trees.Node.{Node}
-use Rattle.completers.specs.declared.trees.Node.TheVariants.{Words, Nested, Merged, Distinct}
+use Rattle.completers.specs.declared.trees.Node.TheVariants.{Words, Merged, Distinct}
 use Rattle.completers.specs.Typed.{typed_word}
-use Rattle.completers.specs.Trees.{Tree, words, nested, merged, distinct, trees_of}
+use Rattle.completers.specs.Trees.{Tree, words, merged, distinct, trees_of}
 use Rattle.completers.specs.Listed.{before_cursor, all_items}
-use Rattle.completers.specs.Gathered.{Gathers, own_texts, joined, starts_of, lists_of}
+use Rattle.completers.specs.Gathered.{Gathers, Gathering, own_texts, joined, starts_of, lists_of}
 use Rattle.completers.proofs.ReachLemmas.{distinct_by_text}
-
--- the completions of some trees, of which further nodes leave the one tree
-abbrev pub Goes : Document → List Node → Tree → List Completion → List ℕ → Type 0
-Goes d nodes tree items starts = (left : List Tree) × Gathers d left items starts × (trees_of nodes left ≡ tree ∷ [])
 
 -- a list of its own stands behind the others
 gathers_more : (d : Document) (trees : List Tree) (one : Tree) (items more : List Completion) (starts next : List ℕ) → Gathers d trees items starts
@@ -27,15 +22,9 @@ gathers_more d trees one items more starts next so_far put begun = record {
 
 pub take_words : (d : Document) (trees : List Tree) (nodes : List Node) (tree : Tree) (listed : List (List ℕ)) (middle : Bool) (items more : List Completion) (starts next : List ℕ)
     → Gathers d trees items starts → trees_of (Words listed middle ∷ nodes) trees ≡ tree ∷ []
-    → more ≡ items ++ all_items (words listed middle) d → next ≡ starts ++ length items ∷ [] → Goes d nodes tree more next
+    → more ≡ items ++ all_items (words listed middle) d → next ≡ starts ++ length items ∷ [] → Gathering d nodes tree more next
 take_words d trees nodes tree listed middle items more starts next so_far goes put begun =
     (words listed middle ∷ trees, gathers_more d trees (words listed middle) items more starts next so_far put begun, goes)
-
-pub take_nested : (d : Document) (trees : List Tree) (nodes : List Node) (tree : Tree) (options : List NestedOption) (items more : List Completion) (starts next : List ℕ)
-    → Gathers d trees items starts → trees_of (Nested options ∷ nodes) trees ≡ tree ∷ []
-    → more ≡ items ++ all_items (nested options) d → next ≡ starts ++ length items ∷ [] → Goes d nodes tree more next
-take_nested d trees nodes tree options items more starts next so_far goes put begun =
-    (nested options ∷ trees, gathers_more d trees (nested options) items more starts next so_far put begun, goes)
 
 -- the last of some places, with the others
 pub record Last (starts : List ℕ) (last : ℕ) : Type 0 where
@@ -63,7 +52,7 @@ same_last xs ys x y is =
 -- the last two lists are one
 pub take_merged : (d : Document) (trees : List Tree) (nodes : List Node) (tree : Tree) (items : List Completion) (starts next : List ℕ) (popped : Option ℕ)
     → Gathers d trees items starts → trees_of (Merged ∷ nodes) trees ≡ tree ∷ []
-    → starts ≡ next ++ option_to_list popped → (0 < length starts → is_some popped ≡ true) → Goes d nodes tree items next
+    → starts ≡ next ++ option_to_list popped → (0 < length starts → is_some popped ≡ true) → Gathering d nodes tree items next
 take_merged d [] nodes tree items starts next popped so_far goes is some = cc
 take_merged d (one ∷ []) nodes tree items starts next popped so_far goes is some = cc
 take_merged d (second ∷ first ∷ trees) nodes tree items starts next None so_far goes is some =
@@ -87,16 +76,10 @@ pub last_start : (d : Document) (one : Tree) (trees : List Tree) (items : List C
 last_start d one trees items starts last so_far end =
     same_last end.others (starts_of (lists_of d trees)) last (length (joined (lists_of d trees))) (sym end.is ∙ so_far.starts_are)
 
-pub start_within : (d : Document) (trees : List Tree) (nodes : List Node) (tree : Tree) (items : List Completion) (starts : List ℕ) (last : ℕ)
-    → Gathers d trees items starts → trees_of (Distinct ∷ nodes) trees ≡ tree ∷ [] → Last starts last → last ≤ length items
-start_within d [] nodes tree items starts last so_far goes end = cc
-start_within d (one ∷ trees) nodes tree items starts last so_far goes end =
-    omega (arith, last_start d one trees items starts last so_far end, ap length so_far.items_are, length-append (joined (lists_of d trees)) (all_items one d))
-
 -- of the last list those stay that give a text of their own
 pub take_distinct : (d : Document) (trees : List Tree) (nodes : List Node) (tree : Tree) (items more : List Completion) (starts : List ℕ) (last : ℕ)
     → d.cursor ≤ length d.text → Gathers d trees items starts → trees_of (Distinct ∷ nodes) trees ≡ tree ∷ []
-    → Last starts last → more ≡ take last items ++ own_texts (typed_word (before_cursor d)) (drop last items) → Goes d nodes tree more starts
+    → Last starts last → more ≡ take last items ++ own_texts (typed_word (before_cursor d)) (drop last items) → Gathering d nodes tree more starts
 take_distinct d [] nodes tree items more starts last within so_far goes end kept = cc
 take_distinct d (one ∷ trees) nodes tree items more starts last within so_far goes end kept =
     let typed = typed_word (before_cursor d) in
@@ -113,17 +96,6 @@ take_distinct d (one ∷ trees) nodes tree items more starts last within so_far 
       goes,
     )
 
-pub no_last : (d : Document) (trees : List Tree) (nodes : List Node) (tree : Tree) (items : List Completion) (starts : List ℕ)
-    → Gathers d trees items starts → trees_of (Distinct ∷ nodes) trees ≡ tree ∷ [] → length starts ≡ 0 → Goes d nodes tree items starts
-no_last d [] nodes tree items starts so_far goes none = cc
-no_last d (one ∷ trees) nodes tree items starts so_far goes none =
-    let lists = lists_of d trees in
-    absurd (omega (arith, none, ap length so_far.starts_are, length-append (starts_of lists) (length (joined lists) ∷ [])))
-
--- nothing is gathered at first
-pub gathers_none : (d : Document) → Gathers d [] [] []
-gathers_none d = record { items_are = refl; starts_are = refl }
-
 -- where one tree is left, its completions are all
-pub gathers_one : (d : Document) (tree : Tree) (items : List Completion) (starts : List ℕ) → Goes d [] tree items starts → items ≡ all_items tree d
+pub gathers_one : (d : Document) (tree : Tree) (items : List Completion) (starts : List ℕ) → Gathering d [] tree items starts → items ≡ all_items tree d
 gathers_one d tree items starts goes = goes.1.items_are ∙ ap (λ trees. joined (lists_of d trees)) goes.2

@@ -1,15 +1,18 @@
 -- A text contains a part where the part's bytes occur among the text's bytes.
 use Prim.Native.Nat.{zero, suc}
-use Rattle.std.proofs.Common.{◌≡◌, ℕ, ◌+◌, ◌/◌, ◌%◌, ◌<◌, ◌≤◌, Bool, true, false, ◌&&◌, ◌||◌, List, [], ◌∷◌, ◌++◌, Option, Some, None, length, take, drop, nat_eq, refl, sym, ap, ◌∙◌, arith, ⊎_elim, length-drop, length-append}
+use Rattle.std.proofs.Common.{◌≡◌, ℕ, ◌+◌, ◌/◌, ◌%◌, ◌<◌, ◌≤◌, Bool, true, false, cond, ◌&&◌, ◌||◌, List, [], ◌∷◌, ◌++◌, Option, Some, None, length, take, drop, map, filter, get_or, nat_eq, refl, sym, ap, ◌∙◌, arith, ⊎_elim, length-drop, length-append, append_assoc}
 use Rattle.std.specs.List.{starts_with}
 use Rattle.std.specs.Option.{is_some}
 use Rattle.std.proofs.lemmas.Bool.{cases_Bool}
+use Rattle.std.proofs.lemmas.List.{take_more, map-append}
+use Rattle.std.proofs.lemmas.List.Elements.{filter-append}
 use Rattle.std.proofs.lemmas.Bool.Decides.{nat_tests, Decides-eqb}
 use Rattle.std.proofs.lemmas.Slice.Eq.{bytes_eq-Decides, starts_is}
 use Rattle.memchr.specs.Find.{FindsNeedle}
 use Rattle.memchr.proofs.lemmas.MatchLemmas.{OccursAt-part, OccursAt-from_part}
 use Rattle.completers.specs.Marked.{marked}
-use Rattle.completers.specs.Words.{contains_text}
+use Rattle.text_doc.specs.declared.completions.Completion.{Completion}
+use Rattle.completers.specs.Words.{contains_text, fits, completion}
 
 -- the bytes of two characters are the same where the characters are
 mark_same : (p c : ℕ) (rest : Bool)
@@ -84,16 +87,21 @@ pub contains_by_bytes : (text part all bytes : List ℕ) (place : Option ℕ) �
 contains_by_bytes text part all bytes place all_are bytes_are found =
     contains_found all bytes place found ∙ ap (contains_text all) bytes_are ∙ ap (λ hay. contains_text hay (marked part)) all_are ∙ contains_marked text part
 
--- an empty part is contained in everything
-pub contains_empty : (text part : List ℕ) → length part ≡ 0 → contains_text text part ≡ true
-contains_empty [] [] none = refl
-contains_empty (c ∷ text) [] none = refl
-contains_empty text (p ∷ part) none = absurd (omega arith)
-
--- no part that is longer than the text is contained
-pub contains_longer : (text part : List ℕ) → length text < length part → contains_text text part ≡ false
-contains_longer text part longer =
-    contains_nowhere text part (λ k within. ⊎_elim
-    (λ starts. let fits = starts_fit text part k within starts in absurd (omega arith))
-    (λ no. no)
-    (cases_Bool (starts_with nat_eq (drop k text) part)))
+-- the completions of the words so far, and that of the next one where it contains the part
+pub put_fitting : (n : ℕ) (part : List ℕ) (words : List (List ℕ)) (i : ℕ) (word other : List ℕ) (there : Bool) (before items more : List Completion)
+    → i < length words → word ≡ get_or words i other → there ≡ contains_text word part
+    → items ≡ before ++ map (completion n) (filter (fits true part) (take i words)) → more ≡ items ++ cond there (completion n word ∷ []) []
+    → more ≡ before ++ map (completion n) (filter (fits true part) (take (i + 1) words))
+put_fitting n part words i word other there before items more within is found so_far put =
+    let front = filter (fits true part) (take i words) in
+    let words_are : filter (fits true part) (take (i + 1) words) ≡ front ++ cond there (word ∷ []) [] =
+    ap (filter (fits true part)) (take_more words i other within) ∙ filter-append (fits true part) (take i words) (get_or words i other ∷ [])
+    ∙ ap (λ w. front ++ filter (fits true part) (w ∷ [])) (sym is) ∙ ap (λ b. front ++ cond b (word ∷ []) []) (sym found) in
+    put ∙ ap (λ ys. ys ++ cond there (completion n word ∷ []) []) so_far
+    ∙ append_assoc before (map (completion n) front) (cond there (completion n word ∷ []) [])
+    ∙ ap (λ ys. before ++ (map (completion n) front ++ ys)) (sym (one_of there))
+    ∙ ap (λ ys. before ++ ys) (sym (map-append (completion n) front (cond there (word ∷ []) [])) ∙ ap (map (completion n)) (sym words_are))
+  where
+    one_of : (b : Bool) → map (completion n) (cond b (word ∷ []) []) ≡ cond b (completion n word ∷ []) []
+    one_of true = refl
+    one_of false = refl

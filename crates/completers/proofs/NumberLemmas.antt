@@ -1,13 +1,13 @@
 -- Where a text stops to begin a number.
 use Prim.Native.Nat.{zero, suc}
-use Rattle.std.proofs.Common.{◌≡◌, ℕ, ◌+◌, ◌-◌, ◌<◌, ◌≤◌, Bool, true, false, cond, not, ◌&&◌, ◌==◌, nat_lt, nat_le, List, [], ◌∷◌, ◌++◌, length, take, drop, get_or, Some, None, refl, sym, ap, ◌∙◌, ⊎_elim, ◌⊎◌, inl, inr, arith}
+use Rattle.std.proofs.Common.{◌≡◌, ℕ, ◌+◌, ◌-◌, ◌<◌, ◌≤◌, Bool, true, false, cond, not, ◌&&◌, ◌==◌, nat_le, List, [], ◌∷◌, ◌++◌, length, take, drop, get_or, Some, None, refl, sym, ap, ◌∙◌, ⊎_elim, ◌⊎◌, inl, inr, arith}
 use Rattle.std.specs.Char.{is_ascii_digit}
 use Rattle.std.specs.List.{list_all}
 use Rattle.std.specs.Option.{unwrap_or}
-use Rattle.std.proofs.lemmas.Bool.{cases_Bool, le-leb, lt-leb, lt-ltb, and_from, and_left, and_right, and_parts}
-use Rattle.std.proofs.lemmas.List.{length-take, length-drop, take_all, take-take, get_or-drop, drop_all, take-append-drop}
+use Rattle.std.proofs.lemmas.Bool.{cases_Bool, le-leb, lt-leb, and_from, and_left, and_right, and_parts}
+use Rattle.std.proofs.lemmas.List.{length-take, length-drop, take-take, get_or-drop, take-append-drop}
 use Rattle.std.proofs.lemmas.List.Folds.{list_all-append, list_all_more, list_all_at}
-use Rattle.text_doc.proofs.Walks.{first_found, first_none}
+use Rattle.text_doc.proofs.Walks.{first_found}
 use Rattle.completers.specs.declared.numbers.TheConstants.{MAX_DIGITS}
 use Rattle.completers.specs.Numbers.{unsigned, begins_number, is_number, number_fault}
 
@@ -98,32 +98,6 @@ stops_at text s i is within from at few all stops =
     λ k low high. ap not (front_begins text s k is within ∙ begins_before digits (k + 1 - s) (i - s) (omega arith) few all) in
     sym (ap (λ b. cond b None (Some (number_fault text))) none
     ∙ ap (λ o. Some (unwrap_or o (length text))) (sym (first_found (λ k. not (begins_number (take (k + 1) text))) 0 (length text) i (omega arith) at here before)))
-
--- the answers where all digits are read
-pub reads_number : (text : List ℕ) (s i : ℕ) → drop s text ≡ unsigned text → s ≤ i → length text ≤ i → s < length text
-    → i - s ≤ MAX_DIGITS → list_all is_ascii_digit (take (i - s) (drop s text)) ≡ true
-    → None ≡ cond (is_number text) None (Some (number_fault text))
-reads_number text s i is from past some few all =
-    let digits = drop s text in
-    let whole : take (i - s) digits ≡ digits = take_all (i - s) digits (omega (arith, length-drop s text)) in
-    let begins : digits_begin digits ≡ true =
-    and_from _ _ (ap (list_all is_ascii_digit) (sym whole) ∙ all) (le-leb (length digits) MAX_DIGITS (omega (arith, length-drop s text))) in
-    let number : is_number text ≡ true =
-    ap (λ u. digits_begin u && nat_lt 0 (length u)) (sym is) ∙ and_from _ _ begins (lt-ltb 0 (length digits) (omega (arith, length-drop s text))) in
-    sym (ap (λ b. cond b None (Some (number_fault text))) number)
-
-pub reads_no_digit : (text : List ℕ) (s : ℕ) → drop s text ≡ unsigned text → s ≤ length text → length text ≤ s
-    → Some s ≡ cond (is_number text) None (Some (number_fault text))
-reads_no_digit text s is within past =
-    let digits = drop s text in
-    let empty : digits ≡ [] = drop_all s text past in
-    let none : is_number text ≡ false = ap (λ u. digits_begin u && nat_lt 0 (length u)) (sym is ∙ empty) in
-    let before : (k : ℕ) → 0 ≤ k → k < length text → not (begins_number (take (k + 1) text)) ≡ false =
-    λ k low high. ap not (front_begins text s k is within ∙ begins_before digits (k + 1 - s) 0 (omega arith) (omega arith) refl) in
-    let end : length text ≡ s = omega arith in
-    sym (ap (λ b. cond b None (Some (number_fault text))) none
-    ∙ ap (λ o. Some (unwrap_or o (length text))) (sym (first_none (λ k. not (begins_number (take (k + 1) text))) 0 (length text) before))
-    ∙ ap Some end)
 
 -- what the walk reads at `i` is the digit number `i - s`
 pub digit_at : (text : List ℕ) (s i c : ℕ) (b : Bool) → s ≤ i → c ≡ get_or text i 0 → is_ascii_digit c ≡ b → is_ascii_digit (get_or (drop s text) (i - s) 0) ≡ b

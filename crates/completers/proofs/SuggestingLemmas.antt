@@ -1,14 +1,12 @@
 -- The newest line, entry by entry.
-use Rattle.std.proofs.Common.{◌≡◌, Bor, ℕ, ◌+◌, ◌-◌, ◌<◌, ◌≤◌, ◌==◌, Bool, true, false, cond, List, [], ◌∷◌, ◌++◌, length, take, drop, get_or, reverse, Option, Some, None, nat_eq, refl, sym, ap, ◌∙◌, ⊎_elim, arith}
-use Rattle.std.specs.List.{find, flat_map, starts_with, position, position_or_len}
+use Rattle.std.proofs.Common.{◌≡◌, Bor, ℕ, ◌+◌, ◌-◌, ◌<◌, Bool, true, false, cond, List, [], ◌∷◌, ◌++◌, length, take, drop, get_or, reverse, Option, Some, None, nat_eq, refl, sym, ap, ◌∙◌, arith}
+use Rattle.std.specs.List.{find, flat_map, starts_with}
 use Rattle.std.specs.Option.{option_map, option_or, option_copied, is_some}
 use Rattle.std.proofs.lemmas.List.{take_more, reverse-append, append-nil}
-use Rattle.std.proofs.lemmas.Bool.{cases_lt, cond-true, cond-false, lt-ltb, le-ltb}
-use Rattle.std.proofs.lemmas.List.Sums.{fails_before_first}
-use Rattle.std.proofs.lemmas.List.Splits.{slice_split_none, slice_split_first}
 use Rattle.std.proofs.lemmas.List.Concat.{flat_map-append}
 use Rattle.std.proofs.lemmas.List.Folds.{find-append}
-use Rattle.completers.specs.Suggested.{lines_of, rest_of_line, rest_of_newest}
+use Rattle.text_doc.specs.Lines.{lines_of}
+use Rattle.completers.specs.Suggested.{rest_of_line, rest_of_newest}
 
 option_map-option_or : (n : ℕ) (a b : Option (List ℕ)) → option_map (drop n) (option_or a b) ≡ option_or (option_map (drop n) a) (option_map (drop n) b)
 option_map-option_or n None b = refl
@@ -95,26 +93,3 @@ latest_all line left found last all one is before =
 -- the lines of one entry
 pub rest_of_newest-one : (entry line : List ℕ) → latest line (lines_of entry) ≡ rest_of_newest (entry ∷ []) line
 rest_of_newest-one entry line = sym (ap (latest line) (append-nil (lines_of entry)))
-
--- without a line feed all is one line
-pub lines_of-one : (text : List ℕ) → None ≡ position (λ c. c == 10) text → lines_of text ≡ text ∷ []
-lines_of-one text none =
-    let p : ℕ → Bool = λ c. c == 10 in
-    let at = position_or_len p text in
-    ⊎_elim
-    (λ (within : at < length text). let some = none ∙ cond-true _ (Some at) None (lt-ltb at (length text) within) in cc)
-    (λ (past : length text ≤ at). slice_split_none p text (λ k d below. fails_before_first p text k d (omega arith)))
-    (cases_lt at (length text))
-
--- the first line ends before the first line feed
-pub lines_of-cut : (text : List ℕ) (place : ℕ) → Some place ≡ position (λ c. c == 10) text → lines_of text ≡ take place text ∷ lines_of (drop (place + 1) text)
-lines_of-cut text place some =
-    let p : ℕ → Bool = λ c. c == 10 in
-    let at = position_or_len p text in
-    ⊎_elim
-    (λ (within : at < length text).
-    let same : Some place ≡ Some at = some ∙ cond-true _ (Some at) None (lt-ltb at (length text) within) in
-    let is : place ≡ at = cc in
-    slice_split_first p text 0 within ∙ sym (ap (λ n. take n text ∷ lines_of (drop (n + 1) text)) is))
-    (λ (past : length text ≤ at). let none = some ∙ cond-false _ (Some at) None (le-ltb at (length text) past) in cc)
-    (cases_lt at (length text))

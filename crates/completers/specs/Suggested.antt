@@ -1,11 +1,8 @@
 -- What a history suggests to put behind a text.
 use Rattle.std.specs.Prelude.{ℕ, nat_eq, ◌==◌, List, length, drop, reverse, find, Option, None, Some, option_map, if◌then◌else◌}
 use Rattle.std.specs.Char.{is_whitespace}
-use Rattle.std.specs.List.{list_all, slice_split, flat_map, after_last, starts_with}
-
--- the lines of a text, which is cut at each line feed (10)
-abbrev pub lines_of : List ℕ → List (List ℕ)
-lines_of text = slice_split (λ c. c == 10) text
+use Rattle.std.specs.List.{list_all, flat_map, after_last, starts_with}
+use Rattle.text_doc.specs.Lines.{lines_of}
 
 -- what stands behind the last line feed
 abbrev pub last_line : List ℕ → List ℕ

@@ -3,7 +3,7 @@ ghost use Rattle.std.specs.Prelude.{◌≡◌, Some, reverse, IfOk, if◌then◌
 ghost use Rattle.completers.specs.Pairs.{is_opening, is_closing, are_pair, after_character, bracket_fault};
 
 use std::alloc::Global;
-use text_doc::NoMemory;
+use text_doc::{Doc, NoMemory};
 
 /// An opening bracket without a partner so far, and its place.
 #[derive(Clone, Copy)]
@@ -13,12 +13,12 @@ pub struct Opened {
 }
 
 /// Returns the place of the first closing bracket that matches none, or else of the last opening one without a partner.
-pub fn bracket_fault(alloc: Global, text: &[char]) -> Result<Option<usize>, NoMemory>
-    ensures { IfOk result (λ fault. fault ≡ bracket_fault text.now) }
+pub fn bracket_fault(alloc: Global, doc: &Doc) -> Result<Option<usize>, NoMemory>
+    ensures { IfOk result (λ fault. fault ≡ bracket_fault doc.now.text) }
 {
     let mut opened = Vec::new(alloc);
-    for place in 0..text.len() {
-        if !take_character(&mut opened, place, text[place])? {
+    for place in 0..doc.len() {
+        if !take_character(&mut opened, place, doc.char_at(place))? {
             return Ok(Some(place));
         }
     }

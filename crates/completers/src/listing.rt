@@ -1,10 +1,8 @@
 //! The completions of a document, in their order.
-ghost use Rattle.std.specs.Prelude.{◌≡◌, ◌≤◌, [], ◌∷◌, List, length, IfOk, OnOk};
+ghost use Rattle.std.specs.Prelude.{◌≡◌, ◌≤◌, length, IfOk, OnOk};
 ghost use Rattle.std.specs.List.{All};
-ghost use Rattle.completers.specs.declared.trees.Node.{Node};
-ghost use Rattle.completers.specs.Trees.{Tree, trees_of};
 ghost use Rattle.completers.specs.Listed.{before_cursor, all_items, listed_items};
-ghost use Rattle.completers.specs.Gathered.{Gathers};
+ghost use Rattle.completers.specs.Gathered.{IsNext, Takes};
 ghost use Rattle.completers.specs.Typed.{typed_word};
 
 use crate::Completer;
@@ -37,20 +35,18 @@ fn all_items(alloc: Global, completer: &Completer, doc: &Doc) -> Result<Vec<Comp
     ensures items { IfOk result (λ items. items.items ≡ all_items completer.now doc.now) }
     ensures reach { IfOk result (λ items. All (λ item. item.back ≤ doc.now.cursor) items.items) }
 {
-    let before = before_cursor(doc)?;
-    let typed = typed_word(before.as_slice());
+    let typed = typed_word(doc)?;
     let mut items = Vec::new(alloc);
     let mut starts = Vec::new(alloc);
     for node in completer.nodes() {
-        take_node(alloc, node, doc, typed, &mut items, &mut starts)?;
+        take_node(alloc, node, doc, typed.as_slice(), &mut items, &mut starts)?;
     }
     Ok(items)
 }
 
 /// Returns the text before the cursor.
 fn before_cursor(doc: &Doc) -> Result<Text, NoMemory>
-    ensures text { IfOk result (λ text. text ≡ before_cursor doc.now) }
-    ensures within { doc.now.cursor ≤ length doc.now.text }
+    ensures { IfOk result (λ text. text ≡ before_cursor doc.now) }
 {
     doc.part(0, doc.cursor())
 }
@@ -67,11 +63,8 @@ fn take_node(
 ) -> Result<(), NoMemory>
     requires within { doc.now.cursor ≤ length doc.now.text }
     requires typed { typed.now ≡ typed_word (before_cursor doc.now) }
-    requires gathers { (trees : List Tree) × (nodes : List Node) × (tree : Tree)
-        × Gathers doc.now trees items.old.items starts.old.items × (trees_of (node.now ∷ nodes) trees ≡ tree ∷ []) }
-    ensures { OnOk result ((trees : List Tree) (nodes : List Node) (tree : Tree)
-        → Gathers doc.now trees items.old.items starts.old.items → trees_of (node.now ∷ nodes) trees ≡ tree ∷ []
-        → (left : List Tree) × Gathers doc.now left items.new.items starts.new.items × (trees_of nodes left ≡ tree ∷ [])) }
+    requires next { IsNext doc.now node.now items.old.items starts.old.items }
+    ensures { OnOk result (Takes doc.now node.now items.old.items starts.old.items items.new.items starts.new.items) }
 {
     match node {
         Node::Words { words, middle } => {

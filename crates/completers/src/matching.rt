@@ -1,9 +1,9 @@
 //! Words that fit what is typed.
-ghost use Rattle.std.specs.Prelude.{◌≡◌, ◌++◌, true, false, [], ◌∷◌, length, map, filter, OnOk, IfOk};
+ghost use Rattle.std.specs.Prelude.{◌≡◌, ◌++◌, true, false, [], ◌∷◌, length, map, filter, OnOk};
 ghost use Rattle.completers.specs.Marked.{marked};
-ghost use Rattle.completers.specs.Words.{contains_text, fits, completion};
+ghost use Rattle.completers.specs.Words.{fits, completion};
 
-use memchr::memmem;
+use memchr::memmem::Finder;
 use std::alloc::Global;
 use text_doc::{Completion, NoMemory, Text};
 
@@ -43,7 +43,8 @@ fn put_starting(
     Ok(())
 }
 
-/// Puts the completions of those words that contain what is typed behind the others.
+/// Puts the completions of those words that contain what is typed behind the others. One searcher and one buffer serve
+/// for all words.
 fn put_containing(
     alloc: Global,
     items: &mut Vec<Completion>,
@@ -52,10 +53,14 @@ fn put_containing(
 ) -> Result<(), NoMemory>
     ensures { OnOk result (items.new.items ≡ items.old.items ++ map (completion (length typed.now)) (filter (fits true typed.now) words.now)) }
 {
-    let bytes = marked(alloc, typed)?;
+    let mut needle = Vec::new(alloc);
+    write_marked(&mut needle, typed)?;
+    let finder = Finder::new(needle.as_slice());
+    let mut bytes = Vec::new(alloc);
     for text in words {
         let word = text.as_slice();
-        if contains_text(alloc, word, typed, bytes.as_slice())? {
+        write_marked(&mut bytes, word)?;
+        if finder.find(bytes.as_slice()).is_some() {
             put_word(alloc, items, word, typed.len())?;
         }
     }
@@ -76,32 +81,12 @@ fn put_word(
     Ok(())
 }
 
-/// Returns whether a text contains another, which is given with its bytes.
-fn contains_text(
-    alloc: Global,
-    text: &[char],
-    part: &[char],
-    bytes: &[u8],
-) -> Result<bool, NoMemory>
-    requires { bytes.now ≡ marked part.now }
-    ensures { IfOk result (λ found. found ≡ contains_text text.now part.now) }
+/// Writes the bytes of a text in place of what the buffer held: three for each character, of which only the first has its
+/// high bit set. So where the bytes of a text occur among those of another, no occurrence begins within a character.
+fn write_marked(bytes: &mut Vec<u8>, text: &[char]) -> Result<(), NoMemory>
+    ensures { OnOk result (bytes.new.items ≡ marked text.now) }
 {
-    if part.is_empty() {
-        return Ok(true);
-    }
-    if text.len() < part.len() {
-        return Ok(false);
-    }
-    let all = marked(alloc, text)?;
-    Ok(memmem::find(all.as_slice(), bytes).is_some())
-}
-
-/// Returns the bytes of a text: three for each character, of which only the first has its high bit set. So where the
-/// bytes of a text occur among those of another, no occurrence begins within a character.
-fn marked(alloc: Global, text: &[char]) -> Result<Vec<u8>, NoMemory>
-    ensures { IfOk result (λ bytes. bytes.items ≡ marked text.now) }
-{
-    let mut bytes = Vec::new(alloc);
+    bytes.clear();
     for c in text {
         let code = *c as u32;
         let high = code / 128;
@@ -111,5 +96,5 @@ fn marked(alloc: Global, text: &[char]) -> Result<Vec<u8>, NoMemory>
             (code % 128) as u8,
         ])?;
     }
-    Ok(bytes)
+    Ok(())
 }

@@ -1,11 +1,11 @@
 //! What a history suggests.
-ghost use Rattle.std.specs.Prelude.{◌≡◌, ◌==◌, ◌<◌, ◌∷◌, [], position, length, IfOk, IfSome, MatchOption};
+ghost use Rattle.std.specs.Prelude.{◌≡◌, ◌∷◌, [], IfOk};
 ghost use Rattle.std.specs.Option.{option_copied, option_or};
-ghost use Rattle.completers.specs.Suggested.{lines_of, last_line, rest_of_line, rest_of_newest, suggestion};
+ghost use Rattle.completers.specs.Suggested.{last_line, rest_of_line, rest_of_newest, suggestion};
 
 use crate::typed::is_blank;
 use std::alloc::Global;
-use text_doc::{Doc, Lines, NoMemory, Text};
+use text_doc::{Doc, Lines, NoMemory, Text, cut_line};
 
 /// Returns what the history suggests to put behind the text: the rest, which may be empty, of the newest line that starts
 /// with the text's last line. `None` where no line does, and where the last line is empty or all white space.
@@ -15,12 +15,11 @@ use text_doc::{Doc, Lines, NoMemory, Text};
 pub fn suggest(alloc: Global, history: &Lines, doc: &Doc) -> Result<Option<Text>, NoMemory>
     ensures { IfOk result (λ text. text ≡ suggestion history.now doc.now.text) }
 {
-    let text = doc.text()?;
-    let line = last_line(text.as_slice());
-    if is_blank(line) {
+    let line = last_line(doc)?;
+    if is_blank(line.as_slice()) {
         return Ok(None);
     }
-    match newest_rest(history.as_slice(), line) {
+    match newest_rest(history.as_slice(), line.as_slice()) {
         Some(rest) => {
             let text = Text::from_slice(alloc, rest)?;
             Ok(Some(text))
@@ -30,14 +29,15 @@ pub fn suggest(alloc: Global, history: &Lines, doc: &Doc) -> Result<Option<Text>
 }
 
 /// Returns what stands behind the last line feed.
-fn last_line(text: &[char]) -> &[char]
-    ensures { result.now ≡ last_line text.now }
+fn last_line(doc: &Doc) -> Result<Text, NoMemory>
+    ensures { IfOk result (λ line. line ≡ last_line doc.now.text) }
 {
-    let mut start = text.len();
-    while start > 0 && text[start - 1] != '\n' {
+    let mut start = doc.len();
+    while start > 0 && doc.char_at(start - 1) != '\n' {
         start -= 1;
     }
-    &text[start..]
+    let line = doc.part(start, doc.len())?;
+    Ok(line)
 }
 
 /// Returns the rest of the newest line that starts with `line`.
@@ -75,23 +75,4 @@ fn newer_rest<'a>(found: Option<&'a [char]>, old: &'a [char], line: &[char]) -> 
     } else {
         found
     }
-}
-
-/// Returns the first line, without its line feed, and what follows it. `None` where there is no line feed.
-fn cut_line(text: &[char]) -> Option<(&[char], &[char])>
-    ensures lines { MatchOption result (lines_of text.now ≡ text.now ∷ [])
-        (λ cut. lines_of text.now ≡ cut.0.now ∷ lines_of cut.1.now) }
-    ensures shorter { IfSome result (λ cut. length cut.1.now < length text.now) }
-{
-    match line_feed_at(text) {
-        Some(at) => Some((&text[..at], &text[at + 1..])),
-        None => None,
-    }
-}
-
-/// Returns the place of the first line feed.
-fn line_feed_at(text: &[char]) -> Option<usize>
-    ensures { result ≡ position (λ c. c == 10) text.now }
-{
-    text.iter().position(|c| *c == '\n')
 }

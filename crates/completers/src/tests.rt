@@ -30,7 +30,8 @@ fn words(alloc: Global, texts: &[&str], middle: bool) -> Result<Completer, NoMem
     Completer::words(alloc, lines(alloc, texts)?, middle)
 }
 
-/// The options `show` with two inner words, `exit` without any, and two of the name `set`, of which the second has one.
+/// Makes the options `show` with two inner words, `exit` without any, and two of the name `set`, of which the second has
+/// one.
 fn options(alloc: Global) -> Result<NestedOptions, NoMemory> {
     let mut options = NestedOptions::new(alloc);
     options.push(NestedOption {
@@ -52,7 +53,7 @@ fn options(alloc: Global) -> Result<NestedOptions, NoMemory> {
     options.copy()
 }
 
-/// Each completion as its text, `/`, the last digit of `back`, and a space.
+/// Writes each completion as its text, `/`, the last digit of `back`, and a space.
 fn written(alloc: Global, items: &Completions) -> Result<Text, NoMemory> {
     let mut all = Text::new(alloc);
     for item in items.as_slice() {
@@ -156,7 +157,9 @@ fn merged_and_distinct(rt: HostRuntime) -> Result<(), Fail> {
         ("set", 3, ""),
         ("sets", 3, ""),
     ];
-    complete(&rt, alloc, &Completer::distinct(merged)?, rows.as_slice())?;
+    let distinct = Completer::distinct(merged)?;
+    complete(&rt, alloc, &distinct, rows.as_slice())?;
+    complete(&rt, alloc, &distinct.copy()?, rows.as_slice())?;
 
     let first = Completer::merged(
         words(alloc, &["ab", "ac"], false)?,
@@ -281,7 +284,8 @@ fn verdicts(rt: HostRuntime) -> Result<(), Fail> {
     )
 }
 
-/// Checks each text, and a copy of each verdict. The place of the fault is given, if there is one.
+/// Checks each text, with a copy of the validator and of each verdict. The place of the fault is given, if there is
+/// one.
 fn check(
     rt: &impl Abort,
     alloc: Global,
@@ -291,7 +295,7 @@ fn check(
 ) -> Result<(), Fail> {
     let said = Text::read_str(alloc, said)?;
     for (text, expected) in rows {
-        let verdict = validator.check(alloc, &doc(rt, alloc, text, 0)?)?;
+        let verdict = validator.copy()?.check(alloc, &doc(rt, alloc, text, 0)?)?;
         let fault = match verdict.copy()? {
             Verdict::Valid => None,
             Verdict::Invalid { at, message } => {
@@ -312,7 +316,7 @@ fn tools_reach_another_thread(rt: HostRuntime) -> Result<(), Fail> {
         history: lines(alloc, &["ab"])?,
         validator: Validator::OneOf(lines(alloc, &["ab"])?),
     };
-    let tools = Arc::new(alloc, tools)?;
+    let tools = Arc::new(alloc, tools.copy()?)?;
     let kept = Arc::try_clone(&tools)?;
     let (to, from) = crossbeam_channel::unbounded::<Arc<Tools>, Global>(alloc)?;
     let worker = thread::spawn(&rt, move || match from.recv(&rt) {

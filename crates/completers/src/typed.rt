@@ -1,15 +1,20 @@
 //! The typed word, and blank texts.
-ghost use Rattle.std.specs.Prelude.{◌≡◌, ◌≤◌, length};
+ghost use Rattle.std.specs.Prelude.{◌≡◌, ◌≤◌, length, IfOk};
 ghost use Rattle.std.specs.Char.{is_whitespace};
 ghost use Rattle.std.specs.List.{list_all};
-ghost use Rattle.text_doc.specs.Words.{is_word_character};
+ghost use Rattle.completers.specs.Listed.{before_cursor};
 ghost use Rattle.completers.specs.Typed.{is_of_word, typed_len, typed_word};
 
-/// Returns the typed word, of the characters before the cursor.
-pub fn typed_word(before: &[char]) -> &[char]
-    ensures { result.now ≡ typed_word before.now }
+use text_doc::{Class, Doc, NoMemory, Text, class_of};
+
+/// Returns the typed word: what stands right before the cursor.
+pub fn typed_word(doc: &Doc) -> Result<Text, NoMemory>
+    ensures word { IfOk result (λ word. word ≡ typed_word (before_cursor doc.now)) }
+    ensures within { doc.now.cursor ≤ length doc.now.text }
 {
-    &before[before.len() - typed_len(before)..]
+    let end = doc.cursor();
+    let word = doc.part(end - typed_len(doc), end)?;
+    Ok(word)
 }
 
 /// Returns whether all characters are white space.
@@ -19,31 +24,29 @@ pub fn is_blank(text: &[char]) -> bool
     text.iter().all(|c| c.is_whitespace())
 }
 
-fn typed_len(before: &[char]) -> usize
-    ensures len { result ≡ typed_len before.now }
-    ensures within { result ≤ length before.now }
+/// Returns how many characters the typed word has.
+fn typed_len(doc: &Doc) -> usize
+    ensures len { result ≡ typed_len (before_cursor doc.now) }
+    ensures within { result ≤ doc.now.cursor }
 {
-    let mut start = before.len();
-    if start == 0 {
+    let end = doc.cursor();
+    if end == 0 {
         return 0;
     }
-    let last = before[start - 1];
-    while start > 0 && is_of_word(last, before[start - 1]) {
+    let last = doc.char_at(end - 1);
+    let mut start = end;
+    while start > 0 && is_of_word(last, doc.char_at(start - 1)) {
         start -= 1;
     }
-    before.len() - start
+    end - start
 }
 
 /// Returns whether `c` can stand in one word with `last`.
-#[tactic(auto, unfolding(text_doc::specs::Words::class_of))]
 fn is_of_word(last: char, c: char) -> bool
     ensures { result ≡ is_of_word last c }
 {
-    !last.is_whitespace() && !c.is_whitespace() && is_word_character(last) == is_word_character(c)
-}
-
-fn is_word_character(c: char) -> bool
-    ensures { result ≡ is_word_character c }
-{
-    c.is_ascii_alphanumeric() || c == '_'
+    matches!(
+        (class_of(last, false), class_of(c, false)),
+        (Class::Word, Class::Word) | (Class::Other, Class::Other)
+    )
 }

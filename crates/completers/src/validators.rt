@@ -42,35 +42,28 @@ impl Validator {
         }
     }
 
-    /// Returns whether the text of the document is valid, and if not where its fault is and what it is.
+    /// Returns whether the text of the document is valid, and if not where its fault is and what it is. The text is read
+    /// where it stands.
     pub fn check(&self, alloc: Global, doc: &Doc) -> Result<Verdict, NoMemory>
         ensures { IfOk result (λ verdict. verdict ≡ verdict_of self.now doc.now.text) }
-    {
-        let text = doc.text()?;
-        let verdict = self.check_text(alloc, text.as_slice())?;
-        Ok(verdict)
-    }
-
-    fn check_text(&self, alloc: Global, text: &[char]) -> Result<Verdict, NoMemory>
-        ensures { IfOk result (λ verdict. verdict ≡ verdict_of self.now text.now) }
     {
         match self {
             Validator::Any => Ok(Verdict::Valid),
             Validator::NonEmpty => {
-                let verdict = verdict_at(alloc, blank_fault(text), "empty input")?;
+                let verdict = verdict_at(alloc, blank_fault(doc), "empty input")?;
                 Ok(verdict)
             }
             Validator::Number => {
-                let verdict = verdict_at(alloc, number_fault(text), "not a number")?;
+                let verdict = verdict_at(alloc, number_fault(doc), "not a number")?;
                 Ok(verdict)
             }
             Validator::OneOf(words) => {
-                let fault = list_fault(words.as_slice(), text);
+                let fault = list_fault(words.as_slice(), doc);
                 let verdict = verdict_at(alloc, fault, "not one of the words")?;
                 Ok(verdict)
             }
             Validator::Balanced => {
-                let fault = bracket_fault(alloc, text)?;
+                let fault = bracket_fault(alloc, doc)?;
                 let verdict = verdict_at(alloc, fault, "bracket not balanced")?;
                 Ok(verdict)
             }
@@ -89,26 +82,30 @@ fn verdict_at(alloc: Global, fault: Option<usize>, message: &str) -> Result<Verd
     Ok(Verdict::Invalid { at, message })
 }
 
-fn blank_fault(text: &[char]) -> Option<usize>
-    ensures { result ≡ fault_in Validator.NonEmpty text.now }
+/// Returns the fault of a text that is all white space.
+fn blank_fault(doc: &Doc) -> Option<usize>
+    ensures { result ≡ fault_in Validator.NonEmpty doc.now.text }
 {
-    if is_blank(text) { Some(0) } else { None }
-}
-
-fn list_fault(words: &[Text], text: &[char]) -> Option<usize>
-    ensures { result ≡ fault_in (Validator.OneOf words.now) text.now }
-{
-    if is_listed(words, text) {
-        None
-    } else {
+    let (front, back) = doc.parts();
+    if is_blank(front) && is_blank(back) {
         Some(0)
+    } else {
+        None
     }
 }
 
-fn is_listed(words: &[Text], text: &[char]) -> bool
-    ensures { result ≡ list_any (λ word. bytes_eq word text.now) words.now }
+/// Returns the fault of a text that is none of the words.
+fn list_fault(words: &[Text], doc: &Doc) -> Option<usize>
+    ensures { result ≡ fault_in (Validator.OneOf words.now) doc.now.text }
 {
-    words.iter().any(|word| word.as_slice() == text)
+    if is_listed(words, doc) { None } else { Some(0) }
+}
+
+/// Returns whether the text is one of the words.
+fn is_listed(words: &[Text], doc: &Doc) -> bool
+    ensures { result ≡ list_any (λ word. bytes_eq word doc.now.text) words.now }
+{
+    words.iter().any(|word| doc.has_text(word.as_slice()))
 }
 
 /// What a validator says of a text.

@@ -5,6 +5,6 @@ use Rattle.completers.proofs.brackets.bracket_fault.Given as goal
 
 abbrev pub invariant-loop-place : goal.invariant-loop-place
 invariant-loop-place l = record {
-  so_far : unclosed (take l.place l.text) ≡ Some (reverse l.opened.items);
-  before : (k : ℕ) → k < l.place → is_none (unclosed (take (k + 1) l.text)) ≡ false;
+  so_far : unclosed (take l.place l.doc.text) ≡ Some (reverse l.opened.items);
+  before : (k : ℕ) → k < l.place → is_none (unclosed (take (k + 1) l.doc.text)) ≡ false;
 }

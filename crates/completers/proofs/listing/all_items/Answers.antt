@@ -7,13 +7,13 @@ use Rattle.completers.proofs.ReachLemmas.{reach_all}
 use Rattle.completers.proofs.GatheringLemmas.{gathers_one}
 use Rattle.completers.proofs.listing.all_items.Goals as goal
 
-pub take_node-requires-clause-gathers : goal.take_node-requires-clause-gathers
-take_node-requires-clause-gathers c =
+pub take_node-requires-clause-next : goal.take_node-requires-clause-next
+take_node-requires-clause-next c =
     let nodes = c.nodes-node-items.result.now in
     let at = c.loop-node.node-index in
     let so_far = c.loop-node.invariant in
     let cut = drop_more nodes at c.node-item.result c.loop-node-test.true ∙ ap (λ n. n ∷ drop (at + 1) nodes) (sym c.node-item.is) in
-    (so_far.0, drop (at + 1) nodes, c.args.completer.now, so_far.1, ap (λ ns. trees_of ns so_far.0) (sym cut) ∙ so_far.2)
+    (drop (at + 1) nodes, c.args.completer.now, (so_far.0, so_far.1, ap (λ ns. trees_of ns so_far.0) (sym cut) ∙ so_far.2))
 
 pub loop-node-preserved : goal.loop-node-preserved
 loop-node-preserved c =
@@ -21,7 +21,7 @@ loop-node-preserved c =
     let at = c.loop-node.node-index in
     let so_far = c.loop-node.invariant in
     let cut = drop_more nodes at c.node-item.result c.loop-node-test.true ∙ ap (λ n. n ∷ drop (at + 1) nodes) (sym c.node-item.is) in
-    c.in_ok-take_node.ensures so_far.0 (drop (at + 1) nodes) c.args.completer.now so_far.1 (ap (λ ns. trees_of ns so_far.0) (sym cut) ∙ so_far.2)
+    c.in_ok-take_node.ensures (drop (at + 1) nodes) c.args.completer.now (so_far.0, so_far.1, ap (λ ns. trees_of ns so_far.0) (sym cut) ∙ so_far.2)
 
 pub returns-clause-reach : goal.returns-clause-reach
 returns-clause-reach c =

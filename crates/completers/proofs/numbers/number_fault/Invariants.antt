@@ -7,5 +7,5 @@ use Rattle.completers.proofs.numbers.number_fault.Given as goal
 abbrev pub invariant-loop-at : goal.invariant-loop-at
 invariant-loop-at l = record {
   few : l.at - l.start ≤ MAX_DIGITS;
-  digits : list_all is_ascii_digit (take (l.at - l.start) (drop l.start l.text)) ≡ true;
+  digits : list_all is_ascii_digit (take (l.at - l.start) (drop l.start l.doc.text)) ≡ true;
 }

@@ -1,6 +1,6 @@
 use Rattle.std.proofs.Common.{◌∙◌}
 use Rattle.std.specs.Option.{option_copied}
-use Rattle.completers.specs.Suggested.{lines_of}
+use Rattle.text_doc.specs.Lines.{lines_of}
 use Rattle.completers.proofs.SuggestingLemmas.{latest, latest_more, latest_all, rest_of_newest-one}
 use Rattle.completers.proofs.suggesting.last_rest.Goals as goal
 

@@ -1,6 +1,6 @@
 use Rattle.std.proofs.Common.{◌≡◌, length}
 use Rattle.std.specs.Option.{option_copied, option_or}
-use Rattle.completers.specs.Suggested.{lines_of}
+use Rattle.text_doc.specs.Lines.{lines_of}
 use Rattle.completers.proofs.SuggestingLemmas.{latest}
 use Rattle.completers.proofs.suggesting.last_rest.Given as goal
 
