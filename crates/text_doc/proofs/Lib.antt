@@ -6,3 +6,7 @@ pub mod GapLemmas
 pub mod Joins
 pub mod RowCounts
 mod LineCuts
+pub mod StartLists
+pub mod StartGaps
+pub mod StartEdits
+pub mod StartRows

@@ -92,12 +92,12 @@ is_row_start-next text place =
     let above : eqb (place + 1) 0 ≡ false = grind (arith, nat_tests) in
     rw (above, back) refl
 
-row_of-next : (text : List ℕ) (place : ℕ) → place < length text → row_of text (place + 1) ≡ row_of text place + cond (eqb (get_or text place 0) 10) 1 0
+pub row_of-next : (text : List ℕ) (place : ℕ) → place < length text → row_of text (place + 1) ≡ row_of text place + cond (eqb (get_or text place 0) 10) 1 0
 unfolding row_of
 row_of-next text place within = sum_by_more (λ c. cond (eqb c 10) 1 0) text place 0 within
 
 -- up to a place one row more starts than line feeds stand before it
-length-row_starts : (text : List ℕ) (place : ℕ) → place ≤ length text → length (passing (is_row_start text) 0 (place + 1)) ≡ row_of text place + 1
+pub length-row_starts : (text : List ℕ) (place : ℕ) → place ≤ length text → length (passing (is_row_start text) 0 (place + 1)) ≡ row_of text place + 1
 unfolding row_of
 length-row_starts text zero within = refl
 length-row_starts text (suc place) within =

@@ -1,16 +1,11 @@
 -- What a walk along the rows has met.
-use Rattle.std.proofs.Common.{◌≡◌, ℕ, ◌+◌, ◌-◌, ◌<◌, ◌≤◌, true, false, List, length, get_or, None, unwrap_or, refl, ap, ◌∙◌, arith, ◌⊎◌, inl, inr}
+use Rattle.std.proofs.Common.{◌≡◌, ℕ, ◌+◌, ◌-◌, ◌<◌, ◌≤◌, true, false, List, length, get_or, None, unwrap_or, refl, ap, ◌∙◌, arith, ◌⊎◌}
 use Rattle.std.specs.List.{slice_get}
-use Rattle.std.proofs.lemmas.Bool.{cases_lt}
 use Rattle.std.proofs.lemmas.Bool.Decides.{nat_tests}
 use Rattle.std.proofs.lemmas.Option.{slice_get_past}
 use Rattle.text_doc.specs.Places.{passing}
 use Rattle.text_doc.specs.Rows.{is_row_start, is_row_end, line_start, line_end, row_start}
 use Rattle.text_doc.proofs.Walks.{length-passing_at, nth_found, first_found, last_found}
-
--- behind another character no row starts
-pub is_row_start-other : (text : List ℕ) (k : ℕ) → 0 < k → (get_or text (k - 1) 0 ≡ 10 → ⊥) → is_row_start text k ≡ false
-is_row_start-other text k above other = grind (arith, nat_tests)
 
 -- behind a line feed a row starts
 pub is_row_start-line_feed : (text : List ℕ) (i : ℕ) → get_or text i 0 ≡ 10 → is_row_start text (i + 1) ≡ true
@@ -59,27 +54,6 @@ length-rows text at start number h =
     let within = h.within in
     length-passing_at (is_row_start text) 0 (at + 1) start (omega arith) (omega arith) h.starts (λ k lo hi. h.none_behind k lo (omega arith))
     ∙ ap (λ n. n + 1) h.rows_before
-
-pub IsInRow-line_feed : (text : List ℕ) (at start number : ℕ) → IsInRow text at start number → get_or text at 0 ≡ 10 → IsInRow text (at + 1) (at + 1) (number + 1)
-IsInRow-line_feed text at start number h here = record {
-  within = omega arith;
-  starts = is_row_start-line_feed text at here;
-  rows_before = length-rows text at start number h;
-  none_behind = λ k lo hi. absurd (omega arith);
-}
-
-pub IsInRow-other : (text : List ℕ) (at start number : ℕ) → IsInRow text at start number → (get_or text at 0 ≡ 10 → ⊥) → IsInRow text (at + 1) start number
-IsInRow-other text at start number h other =
-    let within = h.within in
-    record {
-      within = omega arith;
-      starts = h.starts;
-      rows_before = h.rows_before;
-      none_behind = λ k lo hi. elim (cases_lt k (at + 1)) [
-        | inl below ↦ h.none_behind k lo (omega arith)
-        | inr behind ↦ (let last : k ≡ at + 1 = omega arith in let back : at + 1 - 1 ≡ at = omega arith in rw last (is_row_start-other text (at + 1) (omega arith) (rw back other)))
-      ];
-    }
 
 -- the row that the walk has come to
 pub row_start_found : (text : List ℕ) (at start row : ℕ) → IsInRow text at start row → at ≤ length text → start ≡ row_start text row

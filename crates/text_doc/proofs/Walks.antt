@@ -60,14 +60,6 @@ pub length-passing_back : (p : ℕ → Bool) (a i : ℕ) → a ≤ i → length 
 length-passing_back p a i lo =
     rw (passing_back p a i lo, length-append (passing p a i) (cond (p i) (i ∷ []) []), length-if (p i) i) refl
 
-length-if_front : (b : Bool) (i : ℕ) (xs : List ℕ) → length (cond b (i ∷ xs) xs) ≡ length xs + cond b 1 0
-length-if_front true i xs = omega arith
-length-if_front false i xs = omega arith
-
--- how many pass, with one more place in front
-pub length-passing_front : (p : ℕ → Bool) (i b : ℕ) → i < b → length (passing p i b) ≡ length (passing p (i + 1) b) + cond (p i) 1 0
-length-passing_front p i b h = ap length (passing_front p i b h) ∙ length-if_front (p i) i (passing p (i + 1) b)
-
 -- how many pass, up to the last place that passes
 pub length-passing_at : (p : ℕ → Bool) (a b i : ℕ) → a ≤ i → i < b → p i ≡ true → ((k : ℕ) → i < k → k < b → p k ≡ false) → length (passing p a b) ≡ length (passing p a i) + 1
 length-passing_at p a b i lo hi here behind =

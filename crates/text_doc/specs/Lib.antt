@@ -7,3 +7,4 @@ pub mod Finds
 pub mod Brackets
 pub mod Gap
 pub mod Lines
+pub mod RowStarts

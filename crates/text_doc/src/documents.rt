@@ -31,14 +31,14 @@ impl Model for Doc {
 }
 
 impl Doc {
-    /// Returns a document of this text without a mark, in the text's memory.
-    pub fn new(_alloc: Global, text: Text, cursor: usize) -> Result<Doc, NoMemory>
+    /// Returns a document of this text without a mark, in the text's memory. Its row starts take memory of their own.
+    pub fn new(alloc: Global, text: Text, cursor: usize) -> Result<Doc, NoMemory>
         requires place { cursor ≤ length text }
         requires short { length text ≤ 32768 }
         ensures value { IfOk result (λ doc. doc ≡ record { text = text; cursor = cursor; mark = None }) }
         ensures document { IfOk result IsDocument }
     {
-        let text = IndexedText::new(text)?;
+        let text = IndexedText::new(alloc, text)?;
         Ok(Doc {
             text,
             cursor,
@@ -47,7 +47,7 @@ impl Doc {
     }
 
     /// Takes this text in exchange for its own, which `text` then holds, with the cursor at this place of it and
-    /// without a mark. No character is copied.
+    /// without a mark. No character is copied; the row starts of the new text take memory.
     pub fn exchange(&mut self, text: &mut Text, cursor: usize) -> Result<(), NoMemory>
         requires place { cursor ≤ length text.old }
         requires short { length text.old ≤ 32768 }

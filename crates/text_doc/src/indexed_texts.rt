@@ -1,37 +1,43 @@
 //! A text that is edited in place. A clause sees it as the list of its characters.
-ghost use Rattle.std.specs.Prelude.{◌≡◌, ◌+◌, ◌<◌, ◌≤◌, ◌↔◌, ◌++◌, List, ℕ, length, take, drop, slice_index, slice_range, IfOk, IsTrue, OnOk, OnErr};
+ghost use Rattle.std.specs.Prelude.{◌≡◌, ◌+◌, ◌-◌, ◌<◌, ◌≤◌, ◌↔◌, ◌++◌, List, ℕ, length, take, drop, slice_index, slice_range, IfOk, IsTrue, OnOk, OnErr};
 ghost use Rattle.text_doc.specs.Rows.{row_of};
+ghost use Rattle.text_doc.specs.RowStarts.{row_starts};
 
-use crate::gap_texts::GapText;
-use crate::{NoMemory, Text, comparing};
+use crate::gap_buffers::GapBuffer;
+use crate::{NoMemory, Text, comparing, row_starts};
 use std::alloc::Global;
 use std::marker::Model;
 
-/// The characters of a document.
+/// The characters of a document with their row starts. Both have a gap at the place of the last edit, and an edit there
+/// moves nothing else.
 #[derive(Debug, Drop)]
 pub struct IndexedText {
-    chars: GapText,
+    chars: GapBuffer<char>,
+    starts: GapBuffer<usize>,
 }
 
 impl Model for IndexedText {
-    ghost use Rattle.std.specs.Prelude.{List, ℕ, ◌≤◌, length};
+    ghost use Rattle.std.specs.Prelude.{List, ℕ};
     ghost use Rattle.text_doc.specs.Gap.{joined};
+    ghost use Rattle.text_doc.specs.RowStarts.{IsIndexed};
 
     ghost Value = { List ℕ };
 
     ghost view = { λ t. joined t.chars };
 
-    ghost invariant = { λ t. length (joined t.chars) ≤ 32768 };
+    ghost invariant = { λ t. IsIndexed t.chars t.starts };
 }
 
 impl IndexedText {
-    /// Returns this text, in its memory.
-    pub fn new(text: Text) -> Result<IndexedText, NoMemory>
+    /// Returns this text, in its memory, with its row starts.
+    pub fn new(alloc: Global, text: Text) -> Result<IndexedText, NoMemory>
         requires { length text ≤ 32768 }
         ensures { IfOk result (λ indexed. indexed ≡ text) }
     {
+        let starts = row_starts::starts_of(alloc, text.as_slice())?;
         Ok(IndexedText {
-            chars: GapText::new(text),
+            chars: GapBuffer::new(text),
+            starts,
         })
     }
 
@@ -40,10 +46,12 @@ impl IndexedText {
         ensures { IfOk result (λ copy. copy ≡ self.now) }
     {
         let chars = self.chars.copy()?;
-        Ok(IndexedText { chars })
+        let starts = self.starts.copy()?;
+        Ok(IndexedText { chars, starts })
     }
 
-    /// Takes this text in exchange for its own, which `text` then holds. No character is copied.
+    /// Takes this text in exchange for its own, which `text` then holds. No character is copied; the row starts of the
+    /// new text are found first, which takes memory.
     pub fn exchange(&mut self, text: &mut Text) -> Result<(), NoMemory>
         requires { length text.old ≤ 32768 }
         ensures ok { OnOk result (self.new ≡ text.old) }
@@ -51,7 +59,9 @@ impl IndexedText {
         ensures err { OnErr result (self.new ≡ self.old) }
         ensures text_stays { OnErr result (text.new ≡ text.old) }
     {
+        let starts = row_starts::starts_of(self.chars.allocator(), text.as_slice())?;
         self.chars.exchange(text);
+        self.starts = starts;
         Ok(())
     }
 
@@ -68,7 +78,12 @@ impl IndexedText {
         requires { at < length self.now }
         ensures { result ≡ slice_index self.now at }
     {
-        self.chars.char_at(at)
+        let (front, back) = self.chars.parts();
+        if at < front.len() {
+            front[at]
+        } else {
+            back[at - front.len()]
+        }
     }
 
     /// Returns the characters as two slices, which follow on each other.
@@ -107,19 +122,31 @@ impl IndexedText {
     }
 
     /// Returns the number of the row of this place.
-    #[tactic(auto, using(crate::proofs::RowCounts::row_counts), unfolding(crate::specs::Rows::row_of))]
     pub fn row_of(&self, place: usize) -> usize
         requires { place ≤ length self.now }
         ensures row { result ≡ row_of self.now place }
+        ensures within { result ≤ 32768 }
+        ensures short { length self.now ≤ 32768 }
+    {
+        row_starts::row_at(&self.chars, &self.starts, place)
+    }
+
+    /// Returns the number of the last row.
+    pub fn last_row(&self) -> usize
+        ensures { result ≡ length (row_starts self.now) }
+    {
+        row_starts::last_row(&self.chars, &self.starts)
+    }
+
+    /// Returns where the row with this number, which is not the first, starts.
+    pub fn start_of(&self, row: usize) -> usize
+        requires some { 0 < row }
+        requires within { row ≤ length (row_starts self.now) }
+        ensures start { result ≡ slice_index (row_starts self.now) (row - 1) }
+        ensures above { 0 < result }
         ensures within { result ≤ length self.now }
     {
-        let mut row = 0;
-        for at in 0..place {
-            if self.char_at(at) == '\n' {
-                row += 1;
-            }
-        }
-        row
+        row_starts::start_at(&self.chars, &self.starts, row - 1)
     }
 
     /// Puts characters at the place `at`, where the gap goes. All room is taken before anything is moved.
@@ -129,9 +156,9 @@ impl IndexedText {
         ensures ok { OnOk result (self.new ≡ take at self.old ++ chars.now ++ drop at self.old) }
         ensures err { OnErr result (self.new ≡ self.old) }
     {
-        self.chars.make_room(chars.len())?;
-        self.chars.move_to(at);
-        self.chars.push(chars);
+        self.chars.make_room(chars.len(), ' ')?;
+        self.starts.make_room(row_starts::line_feeds(chars), 0)?;
+        row_starts::insert(&mut self.chars, &mut self.starts, at, chars);
         Ok(())
     }
 
@@ -141,8 +168,7 @@ impl IndexedText {
         requires range { to ≤ length self.old }
         ensures { self.new ≡ take from self.old ++ drop to self.old }
     {
-        self.chars.move_to(from);
-        self.chars.remove(to - from);
+        row_starts::delete(&mut self.chars, &mut self.starts, from, to);
     }
 }
 

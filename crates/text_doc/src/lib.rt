@@ -7,10 +7,13 @@ mod completions;
 mod documents;
 mod faults;
 mod finds;
-mod gap_texts;
+mod gap_buffers;
 mod indexed_texts;
 mod lines;
 mod places;
+mod row_starts;
+#[cfg(test)]
+mod row_tests;
 mod rows;
 #[cfg(test)]
 mod tests;

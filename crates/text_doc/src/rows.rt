@@ -1,4 +1,4 @@
-//! Rows and columns, by walks of the text: of one row for its start and end, and of the text before it for its number.
+//! Rows and columns, by the row starts of the text.
 ghost use Rattle.std.specs.Prelude.{◌≡◌, ◌<◌, ◌≤◌, length, IfSome};
 ghost use Rattle.text_doc.specs.Rows.{line_start, line_end, row_of, row_start, index_of, up, down};
 
@@ -9,12 +9,7 @@ pub fn line_start(text: &IndexedText, place: usize) -> usize
     ensures start { result ≡ line_start text.now place }
     ensures within { result ≤ place }
 {
-    for at in (0..place).rev() {
-        if text.char_at(at) == '\n' {
-            return at + 1;
-        }
-    }
-    0
+    row_start(text, text.row_of(place))
 }
 
 pub fn line_end(text: &IndexedText, place: usize) -> usize
@@ -24,12 +19,12 @@ pub fn line_end(text: &IndexedText, place: usize) -> usize
     ensures within { result ≤ length text.now }
     ensures short { length text.now ≤ 32768 }
 {
-    for at in place..text.len() {
-        if text.char_at(at) == '\n' {
-            return at;
-        }
+    let row = text.row_of(place);
+    if row < text.last_row() {
+        text.start_of(row + 1) - 1
+    } else {
+        text.len()
     }
-    text.len()
 }
 
 pub fn index_of(text: &IndexedText, row: usize, col: usize) -> usize
@@ -67,20 +62,15 @@ pub fn down(text: &IndexedText, from: usize, count: u32, col: usize) -> Option<u
     Some(index_of(text, row + count as usize, col))
 }
 
+/// Returns where the row with this number starts, or the last row where there is none with it.
 fn row_start(text: &IndexedText, row: usize) -> usize
     ensures start { result ≡ row_start text.now row }
     ensures within { result ≤ length text.now }
 {
-    let mut start = 0;
-    let mut number = 0;
-    for at in 0..text.len() {
-        if number == row {
-            return start;
-        }
-        if text.char_at(at) == '\n' {
-            start = at + 1;
-            number += 1;
-        }
+    let number = row.min(text.last_row());
+    if number == 0 {
+        0
+    } else {
+        text.start_of(number)
     }
-    start
 }

@@ -224,6 +224,19 @@ fn sameness_and_limit(rt: HostRuntime) -> Result<(), Fail> {
 }
 
 #[test]
+fn sentences(rt: HostRuntime) -> Result<(), Fail> {
+    let sentences = [
+        (InsertFault::TooLong, "more than 32768 characters"),
+        (InsertFault::NoMemory, "no memory for the text"),
+    ];
+    for (fault, sentence) in sentences {
+        let told = format!(in rt.alloc(); "{fault}")?;
+        assert_eq!(rt; told.as_str(), sentence);
+    }
+    Ok(())
+}
+
+#[test]
 fn completion_lists(rt: HostRuntime) -> Result<(), Fail> {
     let text = Text::from_chars(rt.alloc(), &['é', '\u{3000}'])?;
     let mut completions = Completions::new(rt.alloc());

@@ -1,14 +1,17 @@
-use Rattle.std.proofs.Common.{◌≡◌, ◌+◌, ◌-◌, get_or, arith, refl}
-use Rattle.text_doc.proofs.RowWalks.{line_start_found, is_row_start-line_feed, is_row_start-other}
+use Rattle.std.proofs.Common.{◌≡◌, ap, ◌∙◌, arith}
+use Rattle.text_doc.specs.Rows.{line_start, row_start}
+use Rattle.text_doc.proofs.StartRows.{IsRowOf-place}
 use Rattle.text_doc.proofs.rows.line_start.Goals as goal
-
-pub returns-then-char_at-eq10-clause-start : goal.returns-then-char_at-eq10-clause-start
-returns-then-char_at-eq10-clause-start c =
-    let read : c.char_at.result ≡ get_or c.args.text.now (c.loop-at.at - 1) 0 = c.char_at.ensures in
-    line_start_found c.args.text.now c.args.place (c.loop-at.at - 1 + 1) (omega arith) (is_row_start-line_feed c.args.text.now (c.loop-at.at - 1) (cc))
-    (λ k lo hi. is_row_start-other c.args.text.now k (omega arith) (c.loop-at.invariant (k - 1) (omega arith) (omega arith)))
 
 pub returns-clause-start : goal.returns-clause-start
 returns-clause-start c =
-    line_start_found c.args.text.now c.args.place 0 (omega arith) refl
-    (λ k lo hi. is_row_start-other c.args.text.now k lo (c.loop-at.invariant (k - 1) (omega arith) (omega arith)))
+    let text = c.args.text.now in
+    let row = IsRowOf-place text c.args.place c.requires in
+    c.row_start.ensures.start ∙ ap (row_start text) c.row_of.ensures.row ∙ row.line
+
+pub returns-clause-within : goal.returns-clause-within
+returns-clause-within c =
+    let text = c.args.text.now in
+    let row = IsRowOf-place text c.args.place c.requires in
+    let is : c.row_start.result ≡ line_start text c.args.place = c.row_start.ensures.start ∙ ap (row_start text) c.row_of.ensures.row ∙ row.line in
+    omega (arith, row.within)
