@@ -5,7 +5,8 @@ use Rattle.std.specs.List.{onto_first, flat_map}
 use Rattle.std.proofs.lemmas.Bool.{and_from, cases_Bool, eqb-true}
 use Rattle.std.proofs.lemmas.List.{drop_all}
 use Rattle.std.proofs.lemmas.List.Splits.{slice_split-cons_yes, slice_split-cons_no}
-use Rattle.line_history.specs.History.{entry_bytes, line_bytes, lines_of}
+use Rattle.text_doc.specs.Lines.{lines_of}
+use Rattle.line_history.specs.History.{entry_bytes, line_bytes}
 use Rattle.line_history.specs.Writing.{char_bytes, char_bytes_if}
 use Rattle.line_history.proofs.Cuts.{HasFirst-split}
 use lib.Utf8.{encode, scalar, scalars}

@@ -11,7 +11,8 @@ use Rattle.bstr.specs.Utf8.{lossy_chars}
 use Rattle.bstr.proofs.lemmas.EncodeLemmas.{lossy_chars-encode}
 use Rattle.bstr.proofs.lemmas.LossyLemmas.{lossy_chars-front}
 use Rattle.text_doc.specs.declared.documents.TheConstants.{MAX_LENGTH}
-use Rattle.line_history.specs.History.{entries_of, entry_bytes, has_lines, is_short, line_text, lines_of, run_text}
+use Rattle.text_doc.specs.Lines.{lines_of}
+use Rattle.line_history.specs.History.{entries_of, entry_bytes, has_lines, is_short, line_text, run_text}
 use Rattle.line_history.specs.Writing.{char_bytes_if}
 use Rattle.line_history.proofs.Cuts.{HasFirst-split, split-append}
 use Rattle.line_history.proofs.EntryBytes.{comment, entry_bytes_is, is_line_feed, written}

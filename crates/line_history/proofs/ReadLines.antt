@@ -5,7 +5,8 @@ use Rattle.std.proofs.lemmas.Bool.{cases_Bool, not_from_true, not_from_false}
 use Rattle.std.proofs.lemmas.List.{append-nil}
 use Rattle.std.proofs.lemmas.List.Elements.{filter-append}
 use Rattle.std.proofs.lemmas.List.Splits.{slice_split-cons_yes, slice_split-cons_no}
-use Rattle.line_history.specs.History.{entries_of, has_lines, is_entry_line, is_short, line_text, lines_of, run_text}
+use Rattle.text_doc.specs.Lines.{lines_of}
+use Rattle.line_history.specs.History.{entries_of, has_lines, is_entry_line, is_short, line_text, run_text}
 use Rattle.line_history.specs.Reading.{Progress, after_line_if, after_lines, ended, extended, kept}
 use Rattle.line_history.proofs.Cuts.{HasFirst-split}
 use Rattle.line_history.proofs.Fronts.{kept_front}

@@ -2,11 +2,8 @@
 use Rattle.std.specs.Prelude.{ℕ, Bool, true, false, ◌==◌, not, List, [], ◌∷◌, ◌++◌, length, drop, map, filter, nat_le, slice_index, codes, decimal, encode_utf8_all}
 use Rattle.std.specs.List.{slice_split, join_with_byte, flat_map}
 use Rattle.bstr.specs.Utf8.{lossy_chars}
+use Rattle.text_doc.specs.Lines.{lines_of}
 use Rattle.text_doc.specs.declared.documents.TheConstants.{MAX_LENGTH}
-
--- the lines of some bytes or characters, which are cut at each line feed (10); the last line may be empty
-abbrev pub lines_of : List ℕ → List (List ℕ)
-lines_of xs = slice_split (λ x. x == 10) xs
 
 -- whether the line is one of an entry: it begins with `+` (43)
 abbrev pub is_entry_line : List ℕ → Bool

@@ -15,7 +15,8 @@ use text_doc::{Bytes, NoMemory, Text};
 /// `text_doc::MAX_LENGTH` characters is written too, and passed over where the file is read.
 pub fn entry_text(alloc: Global, entry: &Text, moment: u64) -> Result<Bytes, NoMemory>
     ensures bytes { IfOk result (λ bytes. bytes ≡ entry_bytes entry.now moment) }
-    ensures reads_back { IfOk result (λ bytes. length entry.now ≤ MAX_LENGTH → entries_of bytes ≡ entry.now ∷ []) }
+    ensures reads_back { IfOk result (λ bytes. length entry.now ≤ MAX_LENGTH
+        → entries_of bytes ≡ entry.now ∷ []) }
     ensures grows { IfOk result (λ bytes. (file : List ℕ) → length entry.now ≤ MAX_LENGTH
         → entries_of (file ++ bytes) ≡ entries_of file ++ entry.now ∷ []) }
 {

@@ -81,7 +81,7 @@ impl Model for MemoryKeeper {
 }
 
 impl MemoryKeeper {
-    /// A keeper of these bytes, of which the calls with these numbers fail.
+    /// Makes a keeper of these bytes, of which the calls with these numbers fail.
     pub fn new(bytes: Bytes, failing: FailingCalls) -> MemoryKeeper
         ensures kept { result.bytes ≡ bytes }
         ensures faults { result.faults ≡ failing }
@@ -89,14 +89,14 @@ impl MemoryKeeper {
         MemoryKeeper { bytes, failing }
     }
 
-    /// The bytes that it keeps.
+    /// Returns the bytes that it keeps.
     pub fn bytes(&self) -> &[u8]
         ensures { result.now ≡ self.now.bytes }
     {
         self.bytes.as_slice()
     }
 
-    /// The number of calls that failed so far.
+    /// Returns the number of calls that failed so far.
     pub fn faults(&self) -> u64
         ensures { result ≡ self.now.faults }
     {

@@ -31,7 +31,7 @@ impl Model for Reader {
 }
 
 impl Reader {
-    /// No line was read yet.
+    /// Makes a reader that has read no line yet.
     pub(crate) fn new(alloc: Global) -> Reader
         ensures { result ≡ record { entries = []; unfinished = None } }
     {
@@ -67,7 +67,7 @@ impl Reader {
         Ok(())
     }
 
-    /// The entries, where no line follows.
+    /// Returns the entries, where no line follows.
     pub(crate) fn finish(mut self) -> Result<Lines, NoMemory>
         ensures { IfOk result (λ entries. entries ≡ ended self) }
     {
@@ -80,7 +80,7 @@ impl Reader {
     }
 }
 
-/// An unfinished text, or none, and behind it one more line in UTF-8.
+/// Puts one more line in UTF-8 behind an unfinished text, or behind none.
 fn extended_text(alloc: Global, unfinished: Option<Text>, line: &[u8]) -> Result<Text, NoMemory>
     requires { ForSome unfinished (λ text. length text ≤ MAX_LENGTH + 1) }
     ensures text { IfOk result (λ text. text ≡ extended unfinished (lossy_chars line.now)) }
@@ -91,7 +91,7 @@ fn extended_text(alloc: Global, unfinished: Option<Text>, line: &[u8]) -> Result
     Ok(text)
 }
 
-/// What the next line of an entry is put behind: the text before it and a line feed, or nothing.
+/// Returns what the next line of an entry is put behind: the text before it and a line feed, or nothing.
 fn begun_line(alloc: Global, unfinished: Option<Text>) -> Result<Text, NoMemory>
     requires { ForSome unfinished (λ text. length text ≤ MAX_LENGTH + 1) }
     ensures text { IfOk result (λ text. text ≡ front (before_line unfinished)) }

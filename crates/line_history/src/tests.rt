@@ -5,7 +5,7 @@ use std::alloc::Global;
 use std::test::Fail;
 use text_doc::{Bytes, Lines, MAX_LENGTH, NoMemory, Text};
 
-/// The entries, each with a `|` behind it.
+/// Writes the entries, each with a `|` behind it.
 fn joined(alloc: Global, entries: &Lines) -> Result<Text, NoMemory> {
     let mut all = Text::new(alloc);
     for entry in entries.as_slice() {
@@ -106,5 +106,18 @@ fn keeper(rt: HostRuntime) -> Result<(), Fail> {
     assert_eq!(rt; loaded.as_slice(), b"+a\n".as_slice());
     assert!(rt; matches!(keeper.load(rt.alloc()), Err(KeeperFault::Failed)));
     assert_eq!(rt; keeper.faults(), 2);
+    Ok(())
+}
+
+#[test]
+fn tells_faults(rt: HostRuntime) -> Result<(), Fail> {
+    let sentences = [
+        (KeeperFault::Failed, "what keeps the history failed"),
+        (KeeperFault::NoMemory, "no memory for the history"),
+    ];
+    for (fault, sentence) in sentences {
+        let told = format!(in rt.alloc(); "{fault}")?;
+        assert_eq!(rt; told.as_str(), sentence);
+    }
     Ok(())
 }

@@ -1,5 +1,5 @@
 use Rattle.std.proofs.Common.{◌≡◌, length}
-use Rattle.line_history.specs.History.{lines_of}
+use Rattle.text_doc.specs.Lines.{lines_of}
 use Rattle.line_history.specs.Reading.{after_lines, ended}
 use Rattle.line_history.proofs.ReadLines.{opening}
 use Rattle.line_history.proofs.files.read_entries.Given as goal
