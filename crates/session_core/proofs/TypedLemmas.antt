@@ -1,6 +1,6 @@
 -- A text that was typed in printable ASCII: what keeps it so, and its cells.
 use Rattle.std.proofs.Common.{◌≡◌, ℕ, zero, suc, ◌-◌, ◌==◌, Bool, true, false, List, [], ◌∷◌, ◌++◌, length, take, drop, fold, refl, ap, sym, ◌∙◌, append_assoc, append-nil, nat_lt, nat_le, ◌&&◌, if◌then◌else◌}
-use Rattle.std.proofs.lemmas.Bool.{false≢true}
+use Rattle.std.proofs.lemmas.Bool.{and_parts}
 use Rattle.std.specs.List.{list_all}
 use Rattle.cell_grid.specs.Attrs.{plain}
 use Rattle.cell_grid.specs.TextCells.{with_next}
@@ -14,29 +14,24 @@ use Rattle.session_core.specs.Keys.{is_printable, is_erase, typed, erased, edite
 use Rattle.session_core.specs.Windows.{typed_cells}
 use Rattle.session_core.proofs.CellLemmas.{drawn-append, with_next-printable}
 
--- a test of two parts that holds
-pub both : (a b : Bool) → (a && b) ≡ true → (a ≡ true) × (b ≡ true)
-both true b holds = (refl, holds)
-both false b holds = absurd (false≢true holds)
-
 pub list_all-append : (test : ℕ → Bool) (xs ys : List ℕ) → list_all test xs ≡ true → list_all test ys ≡ true → list_all test (xs ++ ys) ≡ true
 list_all-append test [] ys first second = second
 list_all-append test (x ∷ xs) ys first second =
-    let parts : (test x ≡ true) × (list_all test xs ≡ true) = both (test x) (list_all test xs) first in
+    let parts : (test x ≡ true) × (list_all test xs ≡ true) = and_parts (test x) (list_all test xs) first in
     ap (λ b. b && list_all test (xs ++ ys)) parts.0 ∙ list_all-append test xs ys parts.1 second
 
 pub list_all-take : (test : ℕ → Bool) (n : ℕ) (xs : List ℕ) → list_all test xs ≡ true → list_all test (take n xs) ≡ true
 list_all-take test zero xs all = refl
 list_all-take test (suc n) [] all = refl
 list_all-take test (suc n) (x ∷ xs) all =
-    let parts : (test x ≡ true) × (list_all test xs ≡ true) = both (test x) (list_all test xs) all in
+    let parts : (test x ≡ true) × (list_all test xs ≡ true) = and_parts (test x) (list_all test xs) all in
     ap (λ b. b && list_all test (take n xs)) parts.0 ∙ list_all-take test n xs parts.1
 
 list_all-drop : (test : ℕ → Bool) (n : ℕ) (xs : List ℕ) → list_all test xs ≡ true → list_all test (drop n xs) ≡ true
 list_all-drop test zero xs all = all
 list_all-drop test (suc n) [] all = refl
 list_all-drop test (suc n) (x ∷ xs) all =
-    let parts : (test x ≡ true) × (list_all test xs ≡ true) = both (test x) (list_all test xs) all in list_all-drop test n xs parts.1
+    let parts : (test x ≡ true) × (list_all test xs ≡ true) = and_parts (test x) (list_all test xs) all in list_all-drop test n xs parts.1
 
 -- a typed character keeps the text printable
 inserted-printable : (doc : Document) (c : ℕ) → is_printable c ≡ true → list_all is_printable doc.text ≡ true
@@ -71,8 +66,8 @@ edited_printable doc c all = by (is_printable c) refl
 drawn-typed : (cells : List Cell) (text : List ℕ) → list_all is_printable text ≡ true → fold (with_next plain plain) cells text ≡ cells ++ typed_cells text
 drawn-typed cells [] all = sym (append-nil cells)
 drawn-typed cells (c ∷ cs) all =
-    let parts : (is_printable c ≡ true) × (list_all is_printable cs ≡ true) = both (is_printable c) (list_all is_printable cs) all in
-    let range : (nat_le 32 c ≡ true) × (nat_le c 126 ≡ true) = both (nat_le 32 c) (nat_le c 126) parts.0 in
+    let parts : (is_printable c ≡ true) × (list_all is_printable cs ≡ true) = and_parts (is_printable c) (list_all is_printable cs) all in
+    let range : (nat_le 32 c ≡ true) × (nat_le c 126 ≡ true) = and_parts (nat_le 32 c) (nat_le c 126) parts.0 in
     ap (λ front. fold (with_next plain plain) front cs) (with_next-printable cells c range.0 range.1)
     ∙ drawn-typed (cells ++ narrow c plain ∷ []) cs parts.1
     ∙ append_assoc cells (narrow c plain ∷ []) (typed_cells cs)

@@ -1,5 +1,5 @@
 //! The drawing of a state: the rows of its line that the buffer's window shows.
-ghost use Rattle.std.specs.Prelude.{◌≡◌, ◌+◌, ◌≤◌, ◌++◌, ℕ, List, true, codes, length, IfOk, OnErr, OnOk};
+ghost use Rattle.std.specs.Prelude.{◌≡◌, ◌+◌, ◌≤◌, ◌++◌, ℕ, List, true, codes, length, IfOk, OnOk};
 ghost use Rattle.std.specs.List.{All, list_all};
 ghost use Rattle.cell_grid.specs.Grid.{columns};
 ghost use Rattle.cell_grid.specs.Row.{IsWhole};
@@ -15,8 +15,8 @@ use std::alloc::Global;
 use text_doc::{Doc, NoMemory, Text};
 use win_view::{Content, Scroll, height, view};
 
-/// Draws what the buffer's window shows of the message, whose cells are given, the text and a blank behind it. Each character of
-/// the text is a cell of one column.
+/// Draws what the buffer's window shows of the message, whose cells are given, the text and a blank behind it. Each
+/// character of the text is a cell of one column.
 pub fn draw_window(
     alloc: Global,
     prompt: &CellRow,
@@ -27,9 +27,11 @@ pub fn draw_window(
     requires few { length prompt.now ≤ 1000 }
     requires printable { list_all is_printable doc.now.text ≡ true }
     ensures drawn { IfOk result (λ drawing. (message : List ℕ) → prompt.now ≡ plain_cells message
-        → drawing ≡ drawn_view (viewed (content_by message doc.now) (window_by (content_by message doc.now) size) scroll)) }
+        → drawing ≡ drawn_view (viewed (content_by message doc.now)
+        (window_by (content_by message doc.now) size) scroll)) }
     ensures wide { IfOk result (λ drawing. columns drawing.grid ≡ size.cols) }
-    ensures high { IfOk result (λ drawing. (1 ≤ length drawing.grid) × (length drawing.grid ≤ size.rows)) }
+    ensures high { IfOk result (λ drawing.
+        (1 ≤ length drawing.grid) × (length drawing.grid ≤ size.rows)) }
     ensures cursor { IfOk result (λ drawing. (message : List ℕ) → prompt.now ≡ plain_cells message
         → ShowsCursor (content_by message doc.now) size scroll drawing) }
 {
@@ -43,7 +45,7 @@ pub fn draw_window(
     })
 }
 
-/// The size of the window: as many rows as the content has, or as the terminal has where these are fewer.
+/// Returns the size of the window: as many rows as the content has, or as the terminal has where these are fewer.
 fn window_size(content: &Content, size: Size) -> Size
     requires content { IsContent content.now }
     requires some { 1 ≤ length (content_rows content.now size.cols) }
@@ -58,11 +60,12 @@ fn window_size(content: &Content, size: Size) -> Size
     }
 }
 
-/// The line that the window shows, with the cursor on its cell.
+/// Returns the line that the window shows, with the cursor on its cell.
 fn line_content(alloc: Global, prompt: &CellRow, doc: &Doc) -> Result<Content, NoMemory>
     requires few { length prompt.now ≤ 1000 }
     requires printable { list_all is_printable doc.now.text ≡ true }
-    ensures content { IfOk result (λ content. (message : List ℕ) → prompt.now ≡ plain_cells message → content ≡ content_by message doc.now) }
+    ensures content { IfOk result (λ content. (message : List ℕ) → prompt.now ≡ plain_cells message
+        → content ≡ content_by message doc.now) }
     ensures few { IfOk result IsContent }
     ensures some { IfOk result (λ content. (width : ℕ) → 1 ≤ length (content_rows content width)) }
     ensures whole { IfOk result (λ content. All IsWhole content.lines) }
@@ -79,9 +82,10 @@ fn line_content(alloc: Global, prompt: &CellRow, doc: &Doc) -> Result<Content, N
     })
 }
 
-/// The cells of the message, one for each character of the text, and a blank.
+/// Returns the cells of the message, one for each character of the text, and a blank.
 fn line_cells(prompt: &CellRow, doc: &Doc) -> Result<CellRow, NoMemory>
-    ensures cells { IfOk result (λ cells. cells ≡ prompt.now ++ typed_cells (doc.now.text ++ codes " ")) }
+    ensures cells { IfOk result (λ cells.
+        cells ≡ prompt.now ++ typed_cells (doc.now.text ++ codes " ")) }
     ensures document { IfOk result (λ _. IsDocument doc.now) }
     ensures whole { IfOk result (λ cells. IsWhole cells) }
 {
@@ -104,7 +108,7 @@ fn push_chars(cells: &mut CellRow, chars: &[char]) -> Result<(), NoMemory>
     Ok(())
 }
 
-/// The cells of a text without attributes.
+/// Returns the cells of a text without attributes.
 pub fn plain_row(alloc: Global, text: Text) -> Result<CellRow, NoMemory>
     ensures cells { IfOk result (λ cells. cells ≡ plain_cells text) }
 {

@@ -6,12 +6,13 @@ ghost use Rattle.session_core.specs.Keys.{edited, erased, is_printable, typed, H
 use std::alloc::AllocError;
 use text_doc::{Doc, InsertFault, NoMemory};
 
-/// Does a key that does not end the prompt: printable ASCII is typed at the cursor where there is room, delete erases the
-/// character before the cursor where there is one, and any other key does nothing.
+/// Does a key that does not end the prompt: printable ASCII is typed at the cursor where there is room, delete erases
+/// the character before the cursor where there is one, and any other key does nothing.
 pub fn edit(doc: &mut Doc, byte: u8) -> Result<(), NoMemory>
     ensures edited { OnOk result (doc.new ≡ edited doc.old byte) }
     ensures err { OnErr result (doc.new ≡ doc.old) }
-    ensures full { is_printable byte ≡ true → MAX_LENGTH ≤ length doc.old.text → HasDoneNothing result doc.old doc.new }
+    ensures full { is_printable byte ≡ true → MAX_LENGTH ≤ length doc.old.text
+        → HasDoneNothing result doc.old doc.new }
 {
     match byte {
         b' '..=b'~' => type_char(doc, char::from(byte))?,

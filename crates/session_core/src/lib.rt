@@ -5,6 +5,8 @@ mod drawings;
 mod edits;
 mod outcomes;
 mod sessions;
+#[cfg(test)]
+mod tests;
 mod windows;
 
 pub use events::Event;

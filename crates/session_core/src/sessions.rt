@@ -41,7 +41,7 @@ impl Model for Session {
 }
 
 impl Session {
-    ghost use Rattle.std.specs.Prelude.{◌≡◌, ◌≤◌, ◌↔◌, IsTrue, IfOk, OnOk, OnErr, Err, length, option_copied};
+    ghost use Rattle.std.specs.Prelude.{◌≡◌, ◌≤◌, ◌↔◌, IsTrue, IfOk, OnOk, Err, length, option_copied};
     ghost use Rattle.cell_grid.specs.Grid.{columns};
     ghost use Rattle.session_core.specs.State.{opened, failed, has_ended, HasFailed};
     ghost use Rattle.session_core.specs.Next.{next};
@@ -49,8 +49,8 @@ impl Session {
     ghost use Rattle.session_core.specs.Keys.{ran};
     ghost use Rattle.session_core.specs.Windows.{HasCursorInside};
 
-    /// A session before its first event, with an empty text. The moment is in milliseconds since 1970. No setting uses the
-    /// history yet.
+    /// Returns a session before its first event, with an empty text. The moment is in milliseconds since 1970. No
+    /// setting uses the history yet.
     pub fn new(
         alloc: Global,
         config: Config,
@@ -117,8 +117,8 @@ impl Session {
     }
 
     #[tactic(auto, using(crate::proofs::TypedLemmas::edited_printable))]
-    /// Runs the keys, of which each byte is one, until one of them ends the prompt. The cost of a key is that of its edit and
-    /// of one walk of the message's cells.
+    /// Runs the keys, of which each byte is one, until one of them ends the prompt. The cost of a key is that of its
+    /// edit and of one walk of the message's cells.
     fn run_keys(&mut self, bytes: &[u8]) -> Result<(), NoMemory>
         ensures ran { OnOk result (self.new ≡ ran self.old bytes.now) }
     {
@@ -146,12 +146,13 @@ impl Session {
     }
 
     #[tactic(auto, using(crate::proofs::WindowLemmas::short_prompt))]
-    /// The full drawing of the present state: the lesser of the terminal's rows and the rows of the line. Its time is one walk of
-    /// the text and of the window.
+    /// Returns the full drawing of the present state: the lesser of the terminal's rows and the rows of the line. Its
+    /// time is one walk of the text and of the window.
     pub fn drawing(&mut self) -> Result<Drawing, NoMemory>
         ensures drawn { IfOk result (λ drawing. drawing ≡ draw self.old) }
         ensures wide { IfOk result (λ drawing. columns drawing.grid ≡ self.old.size.cols) }
-        ensures high { IfOk result (λ drawing. (1 ≤ length drawing.grid) × (length drawing.grid ≤ self.old.size.rows)) }
+        ensures high { IfOk result (λ drawing.
+            (1 ≤ length drawing.grid) × (length drawing.grid ≤ self.old.size.rows)) }
         ensures cursor { IfOk result (λ drawing. IsSettled self.old → HasCursorInside drawing) }
         ensures same { self.new ≡ self.old }
     {
@@ -159,14 +160,14 @@ impl Session {
         Ok(drawing)
     }
 
-    /// How the prompt ended, if it has.
+    /// Tells how the prompt ended, if it has.
     pub fn outcome(&self) -> Option<&Outcome>
         ensures outcome { option_copied result ≡ self.now.outcome }
     {
         self.outcome.as_ref()
     }
 
-    /// Whether no further event is taken.
+    /// Tells whether no further event is taken.
     pub fn ended(&self) -> bool
         ensures ended { result ≡ has_ended self.now }
     {
@@ -181,21 +182,21 @@ impl Session {
         self.outcome = None;
     }
 
-    /// The text that is being edited, with its cursor and mark.
+    /// Returns the text that is being edited, with its cursor and mark.
     pub fn doc(&self) -> &Doc
         ensures doc { result.now ≡ self.now.doc }
     {
         &self.doc
     }
 
-    /// The size of the terminal.
+    /// Returns the size of the terminal.
     pub fn size(&self) -> Size
         ensures size { result ≡ self.now.size }
     {
         self.size
     }
 
-    /// The present moment, in milliseconds since 1970.
+    /// Returns the present moment, in milliseconds since 1970.
     pub fn moment(&self) -> u64
         ensures moment { result ≡ self.now.moment }
     {

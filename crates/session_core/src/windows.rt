@@ -11,13 +11,14 @@ use cell_grid::{CellRow, Size};
 use text_doc::Doc;
 use win_view::{Scroll, count_rows, scroll_to};
 
-/// The scroll with which the window shows the cursor, as near to the old one as can be. Each character of the text is a cell of
-/// one column, so the rows are counted from their number.
+/// Returns the scroll with which the window shows the cursor, as near to the old one as can be. Each character of the
+/// text is a cell of one column, so the rows are counted from their number.
 pub fn settled_scroll(prompt: &CellRow, doc: &Doc, size: Size, old: Scroll) -> Scroll
     requires few { length prompt.now ≤ 1000 }
     requires printable { list_all is_printable doc.now.text ≡ true }
     ensures { (message : List ℕ) → prompt.now ≡ plain_cells message
-        → result ≡ settled (content_by message doc.now) (window_by (content_by message doc.now) size) old }
+        → result ≡ settled (content_by message doc.now)
+        (window_by (content_by message doc.now) size) old }
 {
     let (rows, to_cursor) = count_line(prompt, doc, size.cols());
     let window = size.rows().min(rows);
@@ -28,7 +29,7 @@ pub fn settled_scroll(prompt: &CellRow, doc: &Doc, size: Size, old: Scroll) -> S
     }
 }
 
-/// How many rows the line has, and how many of them come up to the one with the cursor.
+/// Returns how many rows the line has, and how many of them come up to the one with the cursor.
 fn count_line(prompt: &CellRow, doc: &Doc, cols: u32) -> (u32, u32)
     requires few { length prompt.now ≤ 1000 }
     requires cols { 1 ≤ cols }
