@@ -1,7 +1,7 @@
 -- Each text spells at most one list of bytes, and each list of bytes has exactly one spelling.
 use Rattle.std.proofs.Common.{◌≡◌, ℕ, ◌+◌, ◌*◌, ◌/◌, ◌%◌, ◌<◌, Bool, true, false, List, [], ◌∷◌, ◌++◌, Option, Some, None, cond, refl, sym, ap, subst, ◌∙◌, arith, ⊎_elim}
 use Rattle.std.specs.Prelude.{◌==◌, ◌||◌}
-use Rattle.std.proofs.lemmas.Bool.{cases_Bool, cond-true, cond-false, eqb-true, false≢true}
+use Rattle.std.proofs.lemmas.Bool.{cases_Bool, cond-true, cond-false, eqb-true, or_parts}
 use Rattle.std.proofs.lemmas.Bool.Decides.{nat_tests}
 use Rattle.std.proofs.lemmas.List.Concat.{flat_map-cons}
 use Rattle.std.proofs.lemmas.List.Elements.{All-nil, All-cons, All-head, All-tail}
@@ -30,10 +30,6 @@ spelled-hex byte plain slash = cond-false (is_plain byte) _ _ plain ∙ cond-fal
 
 plain_small : (byte : ℕ) → is_plain byte ≡ true → byte < 127
 plain_small byte plain = grind (arith, nat_tests)
-
-or_parts : (x y : Bool) → (x || y) ≡ false → (x ≡ false) × (y ≡ false)
-or_parts true y none = absurd (false≢true (sym none))
-or_parts false y none = (refl, none)
 
 not_slash : (byte : ℕ) → is_plain byte ≡ true → byte == 92 ≡ false
 not_slash byte plain = grind (arith, nat_tests)

@@ -17,5 +17,6 @@ pub fn one_spelling_alone()
 
 /// A line says something exactly where it is the one line for it, within the limits.
 pub fn one_line_for_each()
-    ensures { (line : List ℕ) (said : ScriptLine) → (script_line line ≡ Some said) ↔ Says line said }
+    ensures { (line : List ℕ) (said : ScriptLine)
+        → (script_line line ≡ Some said) ↔ Says line said }
 {}

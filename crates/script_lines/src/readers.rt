@@ -2,7 +2,8 @@
 ghost use Rattle.std.specs.Prelude.{◌≡◌, ◌<◌, ◌==◌, Ok, None, IfOk, length, position};
 ghost use Rattle.std.specs.Option.{option_copied};
 ghost use Rattle.prompt_settings.specs.Size.{size_of};
-ghost use Rattle.script_lines.specs.ScriptLine.{chars_in, is_piece, parts_line, piece_line, resize_line, said_by, script_line, set_line, utf8_in};
+ghost use Rattle.script_lines.specs.ScriptLine.{chars_in, is_piece, parts_line, piece_line, resize_line, said_by};
+ghost use Rattle.script_lines.specs.ScriptLine.{script_line, set_line, utf8_in};
 ghost use Rattle.script_lines.specs.Spelling.{unspelled};
 
 use crate::spelling::read_spelling;

@@ -1,6 +1,7 @@
 //! The spelling of bytes: printable ASCII stands for itself, `\` is `\\`, all else is `\x` and two digits of `0-9a-f`.
 ghost use Rattle.std.specs.Prelude.{◌≡◌, ◌<◌, ◌++◌, IfOk, OnOk, IfSome, option_map};
-ghost use Rattle.script_lines.specs.Spelling.{is_plain, digit_value, hex_byte, hex_digit, spelled, spelling, step_of, unspelled};
+ghost use Rattle.script_lines.specs.Spelling.{is_plain, digit_value, hex_byte, hex_digit, spelled, spelling, step_of};
+ghost use Rattle.script_lines.specs.Spelling.{unspelled};
 
 use std::alloc::Global;
 use text_doc::NoMemory;
