@@ -10,8 +10,8 @@ use crate::row::SeqRow;
 use crate::sequence::{ControlSequence, control_sequence_of};
 use key_names::Key;
 
-/// Returns the key at the front of a text outside a paste, and how many characters it has. None where the text waits for
-/// more, as it never does in a flush.
+/// Returns the key at the front of a text outside a paste, and how many characters it has. None where the text waits
+/// for more, as it never does in a flush.
 pub fn decide(rows: &[SeqRow], flush: bool, text: &[char]) -> Option<(Key, usize)>
     requires some { 0 < length text.now }
     requires control { begin_with_control rows.now ≡ true }

@@ -1,5 +1,4 @@
-//! Laws of the parser, over every table, every list of bytes and every list of pieces and flushes. The functions do nothing:
-//! the contract of each is the law.
+//! Laws of the parser, over every table and all bytes, in whatever pieces. The functions do nothing.
 ghost use Rattle.std.specs.Prelude.{◌≡◌, ℕ, List, [], ◌++◌, true};
 ghost use Rattle.vt_input.specs.declared.row.SeqRow.{SeqRow};
 ghost use Rattle.vt_input.specs.Sequences.{is_short};

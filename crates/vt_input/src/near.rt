@@ -10,11 +10,12 @@ use key_names::KeyText;
 /// The most characters that a row has.
 const ROW_LIMIT: usize = 64;
 
-/// Returns the rows without those at both ends that differ from the text, a character at a time: a search of these finds
-/// what a search of all does. Where the text begins with a plain character there are none, and no row is looked at.
+/// Returns the rows without those at both ends that differ from the text, a character at a time: a search of these
+/// finds what a search of all does. Where the text begins with a plain character there are none, and no row is looked
+/// at.
 ///
-/// In a table in order no row is left behind the place of the text. Before it a row that is a front of the text, as that of
-/// ESC alone, holds back the rows between, although these differ.
+/// In a table in order no row is left behind the place of the text. Before it a row that is a front of the text, as
+/// that of ESC alone, holds back the rows between, although these differ.
 pub fn narrowed<'a>(rows: &'a [SeqRow], text: &[char]) -> &'a [SeqRow]
     requires { begin_with_control rows.now ≡ true }
     ensures { IsSameSearch rows.now result.now text.now }

@@ -38,7 +38,8 @@ impl<const N: usize> Parser<N> {
     ghost use Rattle.characters.specs.Characters.{unfinished_char};
     ghost use Rattle.vt_input.specs.Sequences.{is_short};
     ghost use Rattle.vt_input.specs.Held.{fed_by};
-    ghost use Rattle.vt_input.specs.Inputs.{IsSmall, decoded_after, finished, fed_bytes, parsing_after, flushed, parsing_flushed, has_waiting, stands_for};
+    ghost use Rattle.vt_input.specs.Inputs.{IsSmall, decoded_after, finished, fed_bytes, parsing_after, flushed};
+    ghost use Rattle.vt_input.specs.Inputs.{parsing_flushed, has_waiting, stands_for};
 
     /// Returns a parser that has read nothing.
     pub fn new(alloc: Global, table: SeqTable<N>) -> Result<Parser<N>, AllocError>
@@ -53,8 +54,8 @@ impl<const N: usize> Parser<N> {
         })
     }
 
-    /// Reads a piece of bytes, and returns the key presses that it decides. After want of memory nothing is claimed of the
-    /// parser, and it is only dropped.
+    /// Reads a piece of bytes, and returns the key presses that it decides. After want of memory nothing is claimed of
+    /// the parser, and it is only dropped.
     pub fn feed(&mut self, piece: &[u8]) -> Result<Keys, AllocError>
         ensures keys { IfOk result (λ keys. keys ≡ (fed_bytes self.old piece.now).presses) }
         ensures rest { OnOk result (self.new ≡ parsing_after self.old piece.now) }
