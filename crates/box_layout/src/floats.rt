@@ -3,7 +3,8 @@ ghost use Rattle.std.specs.Prelude.{◌≡◌, ◌+◌, ◌≤◌, ◌++◌, dro
 ghost use Rattle.std.specs.List.{list_all};
 ghost use Rattle.cell_grid.specs.Cell.{blank, same_cell};
 ghost use Rattle.box_layout.specs.Areas.{IsDrawable};
-ghost use Rattle.box_layout.specs.Floats.{near_rows, near_area, is_from, is_free, top_right_area, float_area, with_floats};
+ghost use Rattle.box_layout.specs.Floats.{near_rows, near_area, is_from, is_free, top_right_area, float_area};
+ghost use Rattle.box_layout.specs.Floats.{with_floats};
 ghost use Rattle.box_layout.specs.Placed.{AllInside};
 
 use crate::areas::Area;

@@ -1,5 +1,6 @@
-//! What the division of a split's area means for its children, and that a layout has one placing, inside its area, as laws over the definitions. The functions do nothing.
-ghost use Rattle.std.specs.Prelude.{◌≡◌, ◌↔◌, ℕ, ◌+◌, ◌≤◌, Bool, List, sum, slice_get, count_by, All, Option, Some, if◌then◌else◌};
+//! What the division of a split's area means for its children, and where windows lie, as laws. The functions do nothing.
+ghost use Rattle.std.specs.Prelude.{◌≡◌, ◌↔◌, ℕ, ◌+◌, ◌≤◌, Bool, List, sum, slice_get, count_by, All, Option, Some};
+ghost use Rattle.std.specs.Prelude.{if◌then◌else◌};
 ghost use Rattle.layout_dims.specs.Division.{Division, caps_of};
 ghost use Rattle.layout_dims.specs.Numbers.{Numbers};
 ghost use Rattle.box_layout.specs.declared.areas.Area.{Area};

@@ -12,9 +12,9 @@ use cell_grid::{Drawing, Grid, NoMemory, Size};
 use std::alloc::Global;
 use win_view::{Viewport, show};
 
-/// Returns the drawing of these windows. Each place has the cell of the last window that holds it, else a blank. A half of a wide
-/// character whose other half is covered is a blank too. The cursor is that of the last window with the focus, and at the first
-/// place where there is none. Each window is painted over those before it.
+/// Returns the drawing of these windows. Each place has the cell of the last window that holds it, else a blank. A half
+/// of a wide character whose other half is covered is a blank too. The cursor is that of the last window with the
+/// focus, and at the first place where there is none. Each window is painted over those before it.
 pub fn paint(alloc: Global, placed: &PlacedList, size: Size) -> Result<Drawing, NoMemory>
     requires { AllInside (whole size) placed.now }
     ensures { IfOk result (λ drawing. drawing ≡ painted placed.now size) }
