@@ -146,8 +146,8 @@ fn may_fire(binding: &Binding, facts: &Facts, keys: &[Key]) -> bool
     agrees(binding.keys.as_slice(), keys) && binding.filter.holds(facts)
 }
 
-/// Finds what a table has for these keys, where these facts hold. No filter is asked of a binding whose keys do not agree
-/// with these.
+/// Finds what a table has for these keys, where these facts hold. No filter is asked of a binding whose keys do not
+/// agree with these.
 pub(crate) fn find<const N: usize>(table: &Bindings<N>, facts: &Facts, keys: &[Key]) -> Found
     ensures found { IsFound (active table.now (has facts.now)) keys.now result }
     ensures sized { AllSized table.now }

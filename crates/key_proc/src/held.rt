@@ -53,7 +53,8 @@ impl Model for Held {
 }
 
 impl Held {
-    ghost use Rattle.std.specs.Prelude.{◌≡◌, ◌≢◌, ◌↔◌, ◌-◌, ◌<◌, ◌≤◌, [], ◌∷◌, ◌++◌, List, drop, length, take, slice_get, IsTrue};
+    ghost use Rattle.std.specs.Prelude.{◌≡◌, ◌≢◌, ◌↔◌, ◌-◌, ◌<◌, ◌≤◌, [], ◌∷◌, ◌++◌, List, drop, length, take};
+    ghost use Rattle.std.specs.Prelude.{slice_get, IsTrue};
     ghost use Rattle.key_names.specs.declared.key.KeyPress.{KeyPress};
     ghost use Rattle.key_proc.specs.Facts.{has};
     ghost use Rattle.key_proc.specs.Sizes.{AllSized};

@@ -35,8 +35,8 @@ pub fn fewest_any_fires()
         fires table facts (first ∷ more) flush ≡ fire_on first more n binding }
 {}
 
-/// Deciding with a flush never waits, and each decision takes a key at least. So deciding with a flush until `Nothing` ends
-/// with no key held, whatever facts hold at each decision.
+/// Deciding with a flush never waits, and each decision takes a key at least. So deciding with a flush until `Nothing`
+/// ends with no key held, whatever facts hold at each decision.
 pub fn flush_ends()
     ensures never_waits { (table : List Binding) (facts : Fact → Bool) (held : List KeyPress) →
         fires table facts held true ≢ Fired.Wait }
