@@ -1,4 +1,4 @@
-//! What a prompt needs of the outside: bytes in and out, a terminal to enter, and a screen; and such an outside in memory.
+//! What a prompt needs of the outside: bytes in and out, a terminal to enter, a screen; and all of it in memory.
 #![tactic(auto)]
 
 mod faults;

@@ -13,7 +13,8 @@ pub trait Sink {
 
     ghost faults: { Self → ℕ };
 
-    /// Puts all the bytes behind those that it took before. Where it fails it may have taken some of them from the front.
+    /// Puts all the bytes behind those that it took before. Where it fails it may have taken some of them from the
+    /// front.
     fn put(&mut self, bytes: &[u8]) -> Result<(), Failed>
         ensures bytes { Puts (taken self.old) (taken self.new) bytes.now result }
         ensures cause { HasCause (faults self.old) (faults self.new) result };

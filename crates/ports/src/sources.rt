@@ -1,8 +1,8 @@
 //! Where bytes come from.
-ghost use Rattle.std.specs.Prelude.{◌≡◌, ◌+◌, ◌-◌, ◌^◌, ◌≤◌, ℕ, List, length, drop, take, min, Some};
+ghost use Rattle.std.specs.Prelude.{◌≡◌, ◌+◌, ◌-◌, ◌≤◌, length, drop, take, min, Some};
 ghost use Rattle.std.specs.Io.{ReadsAtMost};
 ghost use Rattle.std.specs.Io.KnownBytes.{ReadConsumes};
-ghost use Rattle.causes.specs.Faults.{HasCause, counted};
+ghost use Rattle.causes.specs.Faults.{HasCause};
 ghost use Rattle.ports.specs.Supply.{Supply, CountsEmptyRead};
 
 use crate::faults::{Failed, FailingCalls};
@@ -12,8 +12,8 @@ use std::marker::Model;
 pub trait Source {
     ghost supply: { Self → Supply };
 
-    /// Reads some bytes to the front of the buffer, and answers how many. Into a buffer with room it gives 0 bytes only at
-    /// the end of the source; a terminal that gives nothing yet is the one exception, and no end is claimed there.
+    /// Reads some bytes to the front of the buffer, and answers how many. Into a buffer with room it gives 0 bytes only
+    /// at the end of the source; a terminal that gives nothing yet is the one exception, and no end is claimed there.
     fn read(&mut self, into: &mut [u8]) -> Result<usize, Failed>
         ensures fits { ReadsAtMost result into.new }
         ensures bytes { ReadConsumes (supply self.old).left (supply self.new).left result into.new }
