@@ -15,7 +15,7 @@ pub struct InputSource<R: Read + Drop> {
 }
 
 impl<R: Read + Drop> InputSource<R> {
-    /// A source over the reader, of which no read failed yet.
+    /// Returns a source over the reader, of which no read failed yet.
     pub fn new(reader: R) -> InputSource<R> {
         InputSource {
             reader,

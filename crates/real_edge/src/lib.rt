@@ -1,5 +1,4 @@
-//! The standard streams as sources and sinks. These few lines are where the program trusts the system: what a stream
-//! holds or takes is not told.
+//! The standard streams as sources and sinks: here the program trusts the system, whose content is not told.
 #![tactic(auto)]
 
 mod inputs;

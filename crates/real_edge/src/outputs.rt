@@ -13,7 +13,7 @@ pub struct OutputSink<W: Write + Drop> {
 }
 
 impl<W: Write + Drop> OutputSink<W> {
-    /// A sink over the writer, of which no put failed yet.
+    /// Returns a sink over the writer, of which no put failed yet.
     pub fn new(writer: W) -> OutputSink<W> {
         OutputSink { writer, faults: 0 }
     }
