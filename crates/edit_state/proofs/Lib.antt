@@ -1,0 +1,5 @@
+pub mod Numbers
+pub mod Telling
+pub mod Steps
+pub mod Looking
+pub mod Choosing

@@ -1,0 +1,14 @@
+pub mod CommandNumbers
+pub mod Arguments
+pub mod StateFacts
+pub mod States
+pub mod Answers
+pub mod StateEdits
+pub mod CharMoves
+pub mod WordMoves
+pub mod RowMoves
+pub mod HistoryMoves
+pub mod MenuMoves
+pub mod AutoMoves
+pub mod Searches
+pub mod Laws
