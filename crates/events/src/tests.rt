@@ -9,12 +9,12 @@ use std::sync::Arc;
 use std::test::Fail;
 use text_doc::{Bytes, Doc, Lines, Text};
 
-/// The call with this number alone fails.
+/// Makes the call with this number alone fail.
 fn failing_at(alloc: Global, number: u64) -> Result<FailingCalls, Fail> {
     Ok(FailingCalls::new(Vec::from_slice(alloc, &[number])?))
 }
 
-/// A request to check an empty text, with this number.
+/// Makes a request to check an empty text, with this number.
 fn request(alloc: Global, id: u64) -> Result<Request, Fail> {
     let tools = Tools {
         completer: None,
@@ -29,7 +29,7 @@ fn request(alloc: Global, id: u64) -> Result<Request, Fail> {
     })
 }
 
-/// One event of each kind.
+/// Makes one event of each kind.
 fn events(alloc: Global) -> Result<Vec<Event>, Fail> {
     let request = request(alloc, 9)?;
     let batch = Batch::make(alloc, &request, 0)?.ok_or("a batch")?;
@@ -43,7 +43,7 @@ fn events(alloc: Global) -> Result<Vec<Event>, Fail> {
     Ok(events)
 }
 
-/// What kind of event it is, by the first letter of its name, and a number of what it brings.
+/// Tells what kind of event it is, by the first letter of its name, and a number of what it brings.
 fn shape(event: &Event) -> (u8, u64) {
     match event {
         Event::Start => (b's', 0),
@@ -115,4 +115,17 @@ fn jobs(rt: HostRuntime) -> Result<(), Fail> {
 
 fn id_of(request: Option<&Request>) -> u64 {
     request.map_or(0, |request| request.id)
+}
+
+#[test]
+fn tells_faults(rt: HostRuntime) -> Result<(), Fail> {
+    let sentences = [
+        (InboxFault::Failed, "what gives the events failed"),
+        (InboxFault::NoMemory, "no memory for an event"),
+    ];
+    for (fault, sentence) in sentences {
+        let told = format!(in rt.alloc(); "{fault}")?;
+        assert_eq!(rt; told.as_str(), sentence);
+    }
+    Ok(())
 }

@@ -1,5 +1,5 @@
 -- What is true of the parts that an answer is cut into.
-use Rattle.std.proofs.Common.{◌≡◌, ℕ, ◌+◌, ◌-◌, ◌*◌, ◌<◌, ◌≤◌, ◌==◌, Bool, true, false, true≢false, cond, min, nat_lt, List, [], ◌∷◌, ◌++◌, length, take, drop, Option, None, Some, refl, sym, ap, ◌∙◌, subst, arith}
+use Rattle.std.proofs.Common.{◌≡◌, ℕ, ◌+◌, ◌-◌, ◌*◌, ◌<◌, ◌≤◌, ◌==◌, Bool, true, false, cond, min, nat_lt, List, [], ◌∷◌, ◌++◌, length, take, drop, Option, None, Some, refl, sym, ap, ◌∙◌, subst, arith}
 use Prim.Native.Nat.{zero, suc}
 use Rattle.std.proofs.lemmas.Bool.{ltb-true}
 use Rattle.std.proofs.lemmas.Bool.Decides.{nat_tests}
@@ -19,10 +19,6 @@ use Rattle.requests.specs.Whole.{completions_of, completions_for, answer_by, ans
 use Rattle.requests.specs.Batching.{batch_of, needed_batches, count_in, part_of, batch_count, items_of}
 use Rattle.requests.specs.Batches.{IsBatch, batch_at, numbered}
 use Rattle.requests.specs.Answers.{after_batch, parts_left}
-
--- each part starts within the completions
-pub starts_within : (len number : ℕ) → number < needed_batches len → 64 * number ≤ len
-starts_within len number within = omega (arith, within, (div_ceil_times len 64 (omega arith)).1)
 
 -- the parts have all of them
 pub all_covered : (len : ℕ) → len ≤ 64 * needed_batches len
@@ -151,19 +147,6 @@ few_by Check request = omega arith
 
 pub few : (request : RequestFields) → batch_count request < 4294967295
 few request = few_by request.kind request
-
-none_by : (request : RequestFields) (n m : ℕ) (b c : Bool) → nat_lt n (batch_count request) ≡ b → nat_lt m (batch_count request) ≡ c → n ≤ m
-    → cond b (Some (batch_at request n)) None ≡ None → cond c (Some (batch_at request m)) None ≡ None
-none_by request n m true c below within before none = cc
-none_by request n m false false below within before none = refl
-none_by request n m false true below within before none =
-    let no : nat_lt m (batch_count request) ≡ false = grind (arith, nat_tests) in
-    absurd (true≢false (sym within ∙ no))
-
--- no batch comes behind the last one
-pub none_behind : (request : RequestFields) (n m : ℕ) → n ≤ m → numbered request n ≡ None → numbered request m ≡ None
-none_behind request n m before none =
-    none_by request n m (nat_lt n (batch_count request)) (nat_lt m (batch_count request)) refl refl before none
 
 stops_by : (request : RequestFields) (n : ℕ) (b : Bool) → nat_lt n (batch_count request) ≡ b → numbered request (min n (batch_count request)) ≡ numbered request n
 stops_by request n true is =

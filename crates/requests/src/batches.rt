@@ -34,7 +34,8 @@ impl Model for Batch {
 }
 
 impl Batch {
-    /// Returns the batch with this number, from 0 on, of the answer to a request. `None` where the answer has no such batch.
+    /// Returns the batch with this number, from 0 on, of the answer to a request. `None` where the answer has no such
+    /// batch.
     ///
     /// The whole answer is worked out for it. Who wants more than one batch cuts them from one `Answer`.
     pub fn make(alloc: Global, request: &Request, number: u32) -> Result<Option<Batch>, NoMemory>
@@ -52,8 +53,18 @@ impl Batch {
 
     /// Puts a batch together of its request, its number, what it brings, and whether it is the last one.
     pub(crate) fn of(request: Arc<Request>, number: u32, items: Items, last: bool) -> Batch
-        requires { IsBatch (record { request = request.value; number = number; items = items; last = last }) }
-        ensures { result ≡ record { request = request.value; number = number; items = items; last = last } }
+        requires { IsBatch (record {
+          request = request.value;
+          number = number;
+          items = items;
+          last = last;
+        }) }
+        ensures { result ≡ record {
+          request = request.value;
+          number = number;
+          items = items;
+          last = last;
+        } }
     {
         Batch {
             request,

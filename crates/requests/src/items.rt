@@ -45,7 +45,8 @@ impl Items {
 
 /// Works out the answer to a request. Returns its parts, the last one first.
 pub(crate) fn parts_of(alloc: Global, request: &Request) -> Result<Vec<Items>, NoMemory>
-    ensures { IfOk result (λ parts. parts.items ≡ parts_left (answer_to request.now) (count_in (answer_to request.now))) }
+    ensures { IfOk result (λ parts.
+        parts.items ≡ parts_left (answer_to request.now) (count_in (answer_to request.now))) }
 {
     match request.kind {
         Kind::Complete => {
@@ -84,7 +85,8 @@ fn all_completions(alloc: Global, request: &Request) -> Result<Vec<Completion>, 
 
 /// Cuts completions into parts. Returns these, the last one first.
 fn cut(alloc: Global, mut items: Vec<Completion>) -> Result<Vec<Items>, NoMemory>
-    ensures { IfOk result (λ parts. parts.items ≡ parts_left (Items.Completions items.items) (needed_batches (length items.items))) }
+    ensures { IfOk result (λ parts.
+        parts.items ≡ parts_left (Items.Completions items.items) (needed_batches (length items.items))) }
 {
     let count = needed_batches(items.len());
     let mut parts = Vec::with_capacity(alloc, count)?;

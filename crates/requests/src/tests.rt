@@ -16,7 +16,7 @@ fn doc(rt: &impl Abort, alloc: Global, words: &str) -> Result<Doc, Fail> {
     Ok(doc)
 }
 
-/// The words `a`, `ab`, `abb` and so on.
+/// Makes the words `a`, `ab`, `abb` and so on.
 fn words(alloc: Global, count: usize) -> Result<Lines, NoMemory> {
     let mut words = Lines::new(alloc);
     let mut word = Text::read_str(alloc, "a")?;
@@ -27,7 +27,7 @@ fn words(alloc: Global, count: usize) -> Result<Lines, NoMemory> {
     Ok(words)
 }
 
-/// A completer of `count` words, a history of the entry `alter table`, and a validator that wants a number.
+/// Makes a completer of `count` words, a history of the entry `alter table`, and a validator that wants a number.
 fn tools(alloc: Global, count: usize) -> Result<Arc<Tools>, Fail> {
     let mut history = Lines::new(alloc);
     history.push(Text::read_str(alloc, "alter table")?)?;
@@ -61,7 +61,7 @@ fn made(
     Ok(batch)
 }
 
-/// The lengths of the first and the last completion, and their number; zeros where there are none.
+/// Returns the lengths of the first and the last completion, and their number; zeros where there are none.
 fn ends(items: &Items) -> (usize, usize, usize) {
     match items {
         Items::Completions(items) => match (items.as_slice().first(), items.as_slice().last()) {
@@ -104,7 +104,7 @@ fn batches_of_completions(rt: HostRuntime) -> Result<(), Fail> {
     Ok(())
 }
 
-/// Whether this suggestion is brought.
+/// Tells whether this suggestion is brought.
 fn suggests(items: &Items, expected: &[char]) -> bool {
     match items {
         Items::Suggestion(Some(text)) => text.equals(expected),
@@ -112,7 +112,7 @@ fn suggests(items: &Items, expected: &[char]) -> bool {
     }
 }
 
-/// Whether it is said that the text has a fault at its start.
+/// Tells whether it is said that the text has a fault at its start.
 fn finds_fault(items: &Items) -> bool {
     match items {
         Items::Verdict(Verdict::Invalid { at, .. }) => *at == 0,
