@@ -1,9 +1,11 @@
 pub mod CellSteps
+pub mod Chaining
 pub mod Copies
 pub mod Drawing
 pub mod FrameEnds
 pub mod FrameSteps
 pub mod FrameTurns
+pub mod Growing
 pub mod Leaves
 pub mod LineEnds
 pub mod LineSteps

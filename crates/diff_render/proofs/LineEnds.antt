@@ -1,22 +1,23 @@
 -- The end of a drawing, where the new one is blank.
 use Prim.Native.Nat.{zero, suc}
-use Rattle.std.proofs.Common.{◌≡◌, ℕ, ◌+◌, ◌-◌, ◌<◌, ◌≤◌, true, false, not, List, [], ◌∷◌, ◌++◌, length, take, drop, nat_lt, refl, sym, ap, ◌∙◌, subst, arith, append-nil, length-drop, length-take-le, take-append-drop, ⊎_elim, if◌then◌else◌}
+use Rattle.std.proofs.Common.{◌≡◌, ℕ, ◌+◌, ◌-◌, ◌<◌, ◌≤◌, ◌⊎◌, true, false, not, List, [], ◌∷◌, ◌++◌, length, take, drop, min, nat_lt, inl, inr, refl, sym, ap, ◌∙◌, subst, arith, append-nil, length-drop, length-take-le, take-append-drop, ⊎_elim, if◌then◌else◌}
 use Rattle.std.proofs.lemmas.Bool.{cases_lt}
 use Rattle.std.proofs.lemmas.Bool.Decides.{nat_tests}
-use Rattle.std.proofs.lemmas.List.{length-replicate, get_or-drop}
+use Rattle.std.proofs.lemmas.List.{length-replicate, length-take, get_or-drop, get_or-take}
 use Rattle.cell_grid.specs.declared.cell.Cell.{Cell}
 use Rattle.cell_grid.specs.Attrs.{plain}
 use Rattle.cell_grid.specs.Cell.{blank, same_cell}
 use Rattle.cell_grid.specs.Row.{blank_row, laid_at, mend_start}
 use Rattle.cell_grid.specs.Grid.{AllRows, blank_rows, columns, row_at}
 use Rattle.diff_render.specs.declared.writer.Writer.{Writer}
-use Rattle.diff_render.specs.Changes.{changed_rows}
-use Rattle.diff_render.specs.Writer.{Moves, ErasesBelow, Stood}
-use Rattle.diff_render.specs.Redrawn.{padded, line_at, IsBlankBelow, IsDrawnRow, RowsSoFar}
+use Rattle.diff_render.specs.Changes.{changed_in, changed_rows}
+use Rattle.diff_render.specs.Redrawing.{ErasesFrom, MayTouch}
+use Rattle.diff_render.specs.Writer.{Stood}
+use Rattle.diff_render.specs.Redrawn.{padded, line_at, IsBlankBelow, IsDrawnRow, IsErasedBelow, RowsSoFar}
 use Rattle.diff_render.proofs.CellSteps.{not_false, not_true}
 use Rattle.diff_render.proofs.Moves.{same_then}
 use Rattle.diff_render.proofs.RowEnds.{rest_none, same_cells, differ_somewhere}
-use Rattle.diff_render.proofs.LineSteps.{length_padded, padded_at, line_at_place, all_taken, all_dropped}
+use Rattle.diff_render.proofs.LineSteps.{length_padded, padded_at, line_old, may_touch_line, all_taken, all_dropped}
 use lib.Pointwise.{pointwise}
 
 -- ---- rows that are blank
@@ -58,7 +59,7 @@ row_long cols [] at h within = absurd (omega arith)
 row_long cols (r ∷ rs) zero h within = h.0.long
 row_long cols (r ∷ rs) (suc at) h within = row_long cols rs at h.1 (omega arith)
 
-some_changed : (height cols : ℕ) (old new : List (List Cell)) (end at : ℕ) → AllRows cols old → columns old ≡ cols → columns new ≡ cols → length old ≤ height → length new ≤ height
+pub some_changed : (height cols : ℕ) (old new : List (List Cell)) (end at : ℕ) → AllRows cols old → columns old ≡ cols → columns new ≡ cols → length old ≤ height → length new ≤ height
     → IsBlankBelow end new → end ≤ at → at < length old → IsDrawnRow at old → 1 ≤ changed_rows cols (drop end (padded height cols old)) (drop end (padded height cols new))
 some_changed height cols old new end at rows wide_old wide_new few_old few_new blanks behind within drawn =
     let olds = padded height cols old in
@@ -79,7 +80,7 @@ some_changed height cols old new end at rows wide_old wide_new few_old few_new b
 
 -- ---- all lines
 
-all_drawn : (height cols : ℕ) (old new : List (List Cell)) → length old ≤ height → length new ≤ height → take height (padded height cols new) ++ drop height (padded height cols old) ≡ padded height cols new
+pub all_drawn : (height cols : ℕ) (old new : List (List Cell)) → length old ≤ height → length new ≤ height → take height (padded height cols new) ++ drop height (padded height cols old) ≡ padded height cols new
 all_drawn height cols old new few_old few_new =
     ap (λ ls. ls ++ drop height (padded height cols old)) (all_taken (padded height cols new) height (length_padded height cols new few_new))
     ∙ ap (λ ls. padded height cols new ++ ls) (all_dropped (padded height cols old) height (length_padded height cols old few_old)) ∙ append-nil (padded height cols new)
@@ -91,7 +92,7 @@ none_left height cols old new few_old few_new =
 
 -- what is left was blank
 pub rows_same_end : (w v : Writer) (old new : List (List Cell)) (end old_end : ℕ) → columns old ≡ w.cols → columns new ≡ w.cols → length old ≤ w.height → length new ≤ w.height
-    → end ≤ length new → IsBlankBelow end new → IsBlankBelow old_end old → old_end ≤ end → RowsSoFar w v old new end → RowsSoFar w v old new w.height
+    → end ≤ w.height → IsBlankBelow end new → IsBlankBelow old_end old → old_end ≤ end → RowsSoFar w v old new 0 end → RowsSoFar w v old new 0 w.height
 rows_same_end w v old new end old_end wide_old wide_new few_old few_new within blanks old_blanks lower so_far =
     let height = w.height in
     let olds = padded height w.cols old in
@@ -108,53 +109,85 @@ rows_same_end w v old new end old_end wide_old wide_new few_old few_new within b
       short = omega (arith, so_far.short, none_left height w.cols old new few_old few_new);
     }
 
-erased_row : (line : List Cell) (cols : ℕ) → length line ≡ cols → laid_at line 0 (blank_row (cols - 0)) ≡ blank_row cols
-erased_row line cols long =
-    let k : cols - 0 ≡ cols = omega arith in
-    ap (λ x. blank_row (cols - 0) ++ mend_start x) (rest_none line (0 + length (blank_row (cols - 0))) (omega (arith, length-replicate (cols - 0) blank)))
-    ∙ append-nil (blank_row (cols - 0)) ∙ ap blank_row k
+-- ---- the lines that are there
 
--- what is left is erased
-pub rows_erased : (w v a b c x : Writer) (old new : List (List Cell)) (end old_end : ℕ) → AllRows w.cols old → columns old ≡ w.cols → columns new ≡ w.cols
-    → length old ≤ w.height → length new ≤ w.height → end ≤ length new → IsBlankBelow end new → old_end ≤ length old → (0 < old_end → IsDrawnRow (old_end - 1) old) → end < old_end
-    → RowsSoFar w v old new end → Moves v a end v.col v.pen (end - v.row + 6) → Moves a b a.row 0 a.pen 7 → Moves b c b.row b.col plain 3 → ErasesBelow c x
-    → RowsSoFar w x old new w.height
-rows_erased w v a b c x old new end old_end rows wide_old wide_new few_old few_new within blanks old_within drawn higher so_far goes homes takes erases =
+pub few_taken : (height : ℕ) (rows : List (List Cell)) → length (take height rows) ≤ height
+few_taken height rows = omega (arith, length-take height rows)
+
+pub columns_taken : (height : ℕ) (rows : List (List Cell)) → 0 < height → columns (take height rows) ≡ columns rows
+columns_taken height rows some = ap length (get_or-take height rows 0 [] some)
+
+pub line_taken : (cols height : ℕ) (rows : List (List Cell)) (at : ℕ) → at < height → line_at cols rows at ≡ line_at cols (take height rows) at
+line_taken cols height rows at within = ⊎_elim
+    (λ (inside : at < length rows).
+    let t : nat_lt at (length rows) ≡ true = grind (arith, nat_tests) in
+    let there : at < length (take height rows) = omega (arith, length-take height rows) in
+    let u : nat_lt at (length (take height rows)) ≡ true = grind (arith, nat_tests) in
+    ap (λ b. if b then row_at rows at else blank_row cols) t ∙ sym (get_or-take height rows at [] within)
+    ∙ sym (ap (λ b. if b then row_at (take height rows) at else blank_row cols) u))
+    (λ (outside : length rows ≤ at).
+    let t : nat_lt at (length rows) ≡ false = grind (arith, nat_tests) in
+    let behind : length (take height rows) ≤ at = omega (arith, length-take height rows) in
+    let u : nat_lt at (length (take height rows)) ≡ false = grind (arith, nat_tests) in
+    ap (λ b. if b then row_at rows at else blank_row cols) t ∙ sym (ap (λ b. if b then row_at (take height rows) at else blank_row cols) u))
+    (cases_lt at (length rows))
+
+pub blank_taken : (end height : ℕ) (rows : List (List Cell)) → 0 < height → IsBlankBelow end rows → IsBlankBelow (min end height) (take height rows)
+blank_taken end height rows some blanks k low inside =
+    let here : k < height = omega (arith, inside, length-take height rows) in
+    let there : k < length rows = omega (arith, inside, length-take height rows) in
+    get_or-take height rows k [] here ∙ blanks k (omega arith) there ∙ ap blank_row (sym (columns_taken height rows some))
+
+-- a row from which on all are blank
+pub blank_here : (cols height : ℕ) (rows : List (List Cell)) (end : ℕ) (cells : List Cell) → columns rows ≡ cols → end < height → IsBlankBelow end (take height rows)
+    → cells ≡ line_at cols rows end → cells ≡ blank_row cols
+blank_here cols height rows end cells wide within blanks is =
+    is ∙ line_taken cols height rows end within
+    ∙ blank_line cols (take height rows) end end (columns_taken height rows (omega arith) ∙ wide) blanks (omega arith)
+
+-- all from a place on is erased, where something was
+pub rows_erased : (w v x : Writer) (old new : List (List Cell)) (row col end : ℕ) (o n : List Cell) → length old ≤ w.height → columns new ≡ w.cols → row < w.height
+    → IsBlankBelow end (take w.height new) → (row + 1 ≡ end) ⊎ ((row ≡ end) × (col ≡ 0)) → IsErasedBelow w.height w.cols end old (take w.height new)
+    → o ≡ line_at w.cols old row → n ≡ line_at w.cols new row → RowsSoFar w v old (take w.height new) 0 row → ErasesFrom v x row col o n
+    → RowsSoFar w x old (take w.height new) 0 w.height
+rows_erased w v x old new row col end o n few_old wide within blanks place erased is_old is_new so_far erases =
     let height = w.height in
+    let here = take height new in
+    let few_new = few_taken height new in
+    let wide_new : columns here ≡ w.cols = columns_taken height new (omega arith) ∙ wide in
     let olds = padded height w.cols old in
-    let news = padded height w.cols new in
-    let same = same_then w v x so_far.same (same_then v a x goes.same (same_then a b x homes.same (same_then b c x takes.same erases.same))) in
-    let row : c.row ≡ end = takes.to_row ∙ homes.to_row ∙ goes.to_row in
-    let col : c.col ≡ 0 = takes.to_col ∙ homes.to_col in
-    let cols : c.cols ≡ w.cols = takes.same.cols ∙ homes.same.cols ∙ goes.same.cols ∙ so_far.same.cols in
-    let t : nat_lt end (length old) ≡ true = let h : end < length old = omega arith in grind (arith, nat_tests) in
-    let line = row_at olds end in
-    let below = drop (end + 1) olds in
-    let in_olds : end < length olds = omega (arith, length_padded height w.cols old few_old) in
-    let cut : drop end olds ≡ line ∷ below = line_at_place olds end in_olds in
-    let long : length line ≡ w.cols =
-    ap length (padded_at height w.cols old end (omega arith) ∙ ap (λ b. if b then row_at old end else blank_row w.cols) t) ∙ row_long w.cols old end rows (omega arith) in
-    let left : height - end ≡ suc (length below) = omega (arith, length-drop (end + 1) olds, length_padded height w.cols old few_old) in
-    let after : take end news ++ laid_at line c.col (blank_row (c.cols - c.col)) ∷ blank_rows (length below) c.cols ≡ take height news ++ drop height olds =
-    ap (λ k. take end news ++ laid_at line k (blank_row (c.cols - k)) ∷ blank_rows (length below) c.cols) col
-    ∙ ap (λ n. take end news ++ laid_at line 0 (blank_row (n - 0)) ∷ blank_rows (length below) n) cols
-    ∙ ap (λ l. take end news ++ l ∷ blank_rows (length below) w.cols) (erased_row line w.cols long)
-    ∙ ap (λ n. take end news ++ blank_rows n w.cols) (sym left)
-    ∙ ap (λ ls. take end news ++ ls) (sym (blank_behind height w.cols new end wide_new few_new blanks (omega arith)))
-    ∙ take-append-drop end news ∙ sym (all_drawn height w.cols old new few_old few_new) in
-    let some : 1 ≤ changed_rows w.cols (drop end olds) (drop end news) =
-    some_changed height w.cols old new end (old_end - 1) rows wide_old wide_new few_old few_new blanks (omega arith) (omega arith) (drawn (omega arith)) in
+    let news = padded height w.cols here in
+    let is_o : drop row olds ≡ o ∷ drop (row + 1) olds = line_old height w.cols old row few_old within ∙ ap (λ l. l ∷ drop (row + 1) olds) (sym is_old) in
+    let taken : n ≡ line_at w.cols here row = is_new ∙ line_taken w.cols height new row within in
+    let is_n : drop row news ≡ n ∷ drop (row + 1) news = line_old height w.cols here row few_new within ∙ ap (λ l. l ∷ drop (row + 1) news) (sym taken) in
+    let below = drop (row + 1) olds in
+    let left : height - (row + 1) ≡ length below = omega (arith, length-drop (row + 1) olds, length_padded height w.cols old few_old) in
+    let behind : IsBlankBelow (row + 1) here = λ k low inside. blanks k (place_behind row col end k place low) inside in
+    let changed : changed_rows w.cols (drop row olds) (drop row news) ≡ changed_in o n + changed_rows w.cols below (drop (row + 1) news) =
+    ap (λ r. changed_rows w.cols r (drop row news)) is_o ∙ ap (λ r. changed_rows w.cols (o ∷ below) r) is_n in
+    let some : 1 ≤ changed_in (drop col o) (drop col n) + changed_rows w.cols below (drop (row + 1) news) = elim place [
+      | inl e ↦ omega (arith, subst (λ k. IsErasedBelow height w.cols k old here) (sym e) erased)
+      | inr both ↦
+          omega (arith, subst (λ k. IsErasedBelow height w.cols k old here) (sym both.0) erased, changed, ap (λ k. changed_in (drop k o) (drop k n)) both.1)
+    ] in
+    let after : take row news ++ n ∷ blank_rows (length below) v.cols ≡ take height news ++ drop height olds =
+    ap (λ k. take row news ++ n ∷ blank_rows (length below) k) so_far.same.cols ∙ ap (λ k. take row news ++ n ∷ blank_rows k w.cols) (sym left)
+    ∙ ap (λ ls. take row news ++ n ∷ ls) (sym (blank_behind height w.cols here (row + 1) wide_new few_new behind (omega arith)))
+    ∙ ap (λ ls. take row news ++ ls) (sym is_n) ∙ take-append-drop row news ∙ sym (all_drawn height w.cols old here few_old few_new) in
     record {
       stands = λ ok from may stood.
-          let before : Stood ok v from (take end news ++ line ∷ below) = subst (λ ls. Stood ok v from (take end news ++ ls)) cut (so_far.stands ok from may stood) in
-          let place : length (take end news) ≡ c.row = length-take-le end news (omega (arith, length_padded height w.cols new few_new)) ∙ sym row in
+          let before : Stood ok v from (take row news ++ o ∷ below) = subst (λ ls. Stood ok v from (take row news ++ ls)) is_o (so_far.stands ok from may stood) in
+          let touch : MayTouch ok row o n = subst (λ l. MayTouch ok row l n) (sym is_old) (subst (λ l. MayTouch ok row (line_at w.cols old row) l) (sym taken)
+          (may_touch_line ok w.cols old here row may)) in
           subst (λ ls. Stood ok x from ls) after
-          (erases.stands ok from (take end news) below line place
-          (takes.stands ok from (take end news ++ line ∷ below) (homes.stands ok from (take end news ++ line ∷ below) (goes.stands ok from (take end news ++ line ∷ below) before))));
-      same = same;
+          (erases.stands ok from (take row news) below (length-take-le row news (omega (arith, length_padded height w.cols here few_new))) touch before);
+      same = same_then w v x so_far.same erases.same;
       placed = erases.placed;
-      short = omega (arith, so_far.short, goes.short, homes.short, takes.short, erases.short, some, none_left height w.cols old new few_old few_new, erases.to_row, row);
+      short = omega (arith, so_far.short, erases.short, changed, some, none_left height w.cols old here few_old few_new, erases.to_row);
     }
+  where
+    place_behind : (row col end k : ℕ) → (row + 1 ≡ end) ⊎ ((row ≡ end) × (col ≡ 0)) → row + 1 ≤ k → end ≤ k
+    place_behind row col end k place low = elim place [ inl e ↦ omega arith | inr both ↦ omega (arith, both.0) ]
 
 -- ---- the search for the last row that is not blank
 

@@ -15,7 +15,7 @@ use Rattle.diff_render.specs.Writer.{IsPlaced, Moves, Grows, Stood}
 use Rattle.unicode_width.specs.Width.{char_width}
 use Rattle.cell_grid.specs.Drawable.{AllDrawable, AllRowsDrawable}
 use Rattle.diff_render.specs.Redrawing.{MayTouch, Updates}
-use Rattle.diff_render.specs.Redrawn.{padded, line_at, MayTouchRows, GrowsTo, Reaches, RowsSoFar, Redrawn}
+use Rattle.diff_render.specs.Redrawn.{padded, line_at, MayTouchRows, GrowsTo, RowsSoFar}
 use Rattle.diff_render.proofs.Moves.{same_then}
 use Rattle.diff_render.proofs.RowEnds.{blanks_whole}
 
@@ -58,28 +58,6 @@ grows_more w v x at low so_far more = record {
   to_height = more.height ∙ ap (λ k. k + 1) so_far.to_height;
   placed = more.placed;
   short = omega (arith, so_far.short, more.short);
-}
-
-pub reaches_none : (w : Writer) (height : ℕ) → IsPlaced w → height ≤ w.height → Reaches w w height
-reaches_none w height placed enough = record {
-  stands = λ ok from lines stood. subst (λ ls. Stood ok w from ls) (no_lines lines (height - w.height) w.cols (omega arith)) stood;
-  rows = refl;
-  cols = refl;
-  to_height = omega arith;
-  placed = placed;
-  short = omega arith;
-}
-
-pub reaches_grown : (w a v : Writer) (height : ℕ) → w.height < height → Moves w a (w.height - 1) w.col w.pen (w.height - 1 - w.row + 6) → GrowsTo a v height → Reaches w v height
-reaches_grown w a v height more goes grows = record {
-  stands = λ ok from lines stood.
-      subst (λ ls. Stood ok v from ls) (ap (λ k. lines ++ blank_rows (height - k) a.cols) goes.same.height ∙ ap (λ k. lines ++ blank_rows (height - w.height) k) goes.same.cols)
-      (grows.stands ok from lines (goes.stands ok from lines stood));
-  rows = grows.rows ∙ goes.same.rows;
-  cols = grows.cols ∙ goes.same.cols;
-  to_height = let e : height ≡ max w.height height = omega arith in grows.to_height ∙ e;
-  placed = grows.placed;
-  short = omega (arith, grows.short, goes.short, goes.same.height, grows.to_height);
 }
 
 -- ---- padded drawings
@@ -138,7 +116,7 @@ line_at_place rows at h = let next : suc at ≡ at + 1 = omega arith in drop-con
 up_to_line : (rows : List (List Cell)) (at : ℕ) → at < length rows → take (at + 1) rows ≡ take at rows ++ row_at rows at ∷ []
 up_to_line rows at h = let next : at + 1 ≡ suc at = omega arith in ap (λ k. take k rows) next ∙ take-suc rows at [] h
 
-pub rows_none : (w : Writer) (old new : List (List Cell)) → IsPlaced w → RowsSoFar w w old new 0
+pub rows_none : (w : Writer) (old new : List (List Cell)) → IsPlaced w → RowsSoFar w w old new 0 0
 rows_none w old new placed = record {
   stands = λ ok from may stood. stood;
   same = record { rows = refl; cols = refl; height = refl };
@@ -146,20 +124,30 @@ rows_none w old new placed = record {
   short = omega arith;
 }
 
-pub rows_more : (w v x : Writer) (old new : List (List Cell)) (at : ℕ) → length old ≤ w.height → length new ≤ w.height → at < w.height
-    → RowsSoFar w v old new at → Updates v x at (line_at w.cols old at) (line_at w.cols new at) 7 → RowsSoFar w x old new (at + 1)
-rows_more w v x old new at few_old few_new within so_far updates =
+pub line_old : (height cols : ℕ) (rows : List (List Cell)) (at : ℕ) → length rows ≤ height → at < height
+    → drop at (padded height cols rows) ≡ line_at cols rows at ∷ drop (at + 1) (padded height cols rows)
+line_old height cols rows at few within =
+    let all = padded height cols rows in
+    line_at_place all at (omega (arith, length_padded height cols rows few)) ∙ ap (λ r. r ∷ drop (at + 1) all) (padded_at height cols rows at within)
+
+-- what changes from a line on
+pub changed_here : (height cols : ℕ) (old new : List (List Cell)) (at : ℕ) → length old ≤ height → length new ≤ height → at < height
+    → changed_rows cols (drop at (padded height cols old)) (drop at (padded height cols new))
+    ≡ changed_in (line_at cols old at) (line_at cols new at) + changed_rows cols (drop (at + 1) (padded height cols old)) (drop (at + 1) (padded height cols new))
+changed_here height cols old new at few_old few_new within =
+    ap (λ r. changed_rows cols r (drop at (padded height cols new))) (line_old height cols old at few_old within)
+    ∙ ap (λ r. changed_rows cols (line_at cols old at ∷ drop (at + 1) (padded height cols old)) r) (line_old height cols new at few_new within)
+
+pub rows_more : (w v x : Writer) (old new : List (List Cell)) (first at : ℕ) → first ≤ at → length old ≤ w.height → length new ≤ w.height → at < w.height
+    → RowsSoFar w v old new first at → Updates v x at (line_at w.cols old at) (line_at w.cols new at) 7 → RowsSoFar w x old new first (at + 1)
+rows_more w v x old new first at behind few_old few_new within so_far updates =
     let height = w.height in
     let olds = padded height w.cols old in
     let news = padded height w.cols new in
     let o = line_at w.cols old at in
     let n = line_at w.cols new at in
-    let in_old : at < length olds = omega (arith, length_padded height w.cols old few_old) in
     let in_new : at < length news = omega (arith, length_padded height w.cols new few_new) in
-    let is_o : drop at olds ≡ o ∷ drop (at + 1) olds = line_at_place olds at in_old ∙ ap (λ r. r ∷ drop (at + 1) olds) (padded_at height w.cols old at within) in
-    let is_n : drop at news ≡ n ∷ drop (at + 1) news = line_at_place news at in_new ∙ ap (λ r. r ∷ drop (at + 1) news) (padded_at height w.cols new at within) in
-    let changed : changed_rows w.cols (drop at olds) (drop at news) ≡ changed_in o n + changed_rows w.cols (drop (at + 1) olds) (drop (at + 1) news) =
-    ap (λ r. changed_rows w.cols r (drop at news)) is_o ∙ ap (λ r. changed_rows w.cols (o ∷ drop (at + 1) olds) r) is_n in
+    let is_o : drop at olds ≡ o ∷ drop (at + 1) olds = line_old height w.cols old at few_old within in
     record {
       stands = λ ok from may stood.
           let before : Stood ok v from (take at news ++ o ∷ drop (at + 1) olds) =
@@ -171,7 +159,7 @@ rows_more w v x old new at few_old few_new within so_far updates =
           (updates.stands ok from (take at news) (drop (at + 1) olds) (length-take-le at news (omega arith)) (may_touch_line ok w.cols old new at may) before);
       same = same_then w v x so_far.same updates.same;
       placed = updates.placed;
-      short = omega (arith, so_far.short, updates.short, changed);
+      short = omega (arith, so_far.short, updates.short, changed_here height w.cols old new at few_old few_new within);
     }
 
 -- ---- all lines
@@ -210,33 +198,6 @@ all_dropped [] (suc n) e = refl
 all_dropped (r ∷ rs) zero e = absurd (omega arith)
 all_dropped (r ∷ rs) (suc n) e = all_dropped rs n (omega arith)
 
-pub redrawn_all : (w a v : Writer) (old new : List (List Cell)) → w.height ≡ length old → Reaches w a (length new) → RowsSoFar a v old new a.height → Redrawn w v old new
-redrawn_all w a v old new count reaches drawn =
-    let height : a.height ≡ max (length old) (length new) = reaches.to_height ∙ ap (λ n. max n (length new)) count in
-    let few_old : length old ≤ a.height = omega arith in
-    let few_new : length new ≤ a.height = omega arith in
-    let olds = padded a.height a.cols old in
-    let news = padded a.height a.cols new in
-    let left : length new - w.height ≡ a.height - length old = omega arith in
-    let padding : old ++ blank_rows (length new - w.height) w.cols ≡ olds =
-    ap (λ n. old ++ blank_rows n w.cols) left ∙ ap (λ n. old ++ blank_rows (a.height - length old) n) (sym reaches.cols) in
-    let whole : take a.height news ++ drop a.height olds ≡ padded v.height w.cols new =
-    ap (λ ls. ls ++ drop a.height olds) (all_taken news a.height (length_padded a.height a.cols new few_new))
-    ∙ ap (λ ls. news ++ ls) (all_dropped olds a.height (length_padded a.height a.cols old few_old)) ∙ append-nil news
-    ∙ ap (λ n. padded n a.cols new) (sym drawn.same.height) ∙ ap (λ n. padded v.height n new) reaches.cols in
-    let changed : changed_rows a.cols olds news ≡ changed_rows w.cols old new =
-    changed_padded a.cols a.height old new few_old few_new ∙ ap (λ n. changed_rows n old new) reaches.cols in
-    record {
-      stands = λ ok from may stood.
-          subst (λ ls. Stood ok v from ls) whole
-          (drawn.stands ok from may (subst (λ ls. Stood ok a from ls) padding (reaches.stands ok from old stood)));
-      rows = drawn.same.rows ∙ reaches.rows;
-      cols = drawn.same.cols ∙ reaches.cols;
-      to_height = drawn.same.height ∙ height;
-      placed = drawn.placed;
-      short = omega (arith, drawn.short, reaches.short, changed, drawn.same.height);
-    }
-
 -- ---- the cells of a line can be drawn
 
 blank_width : char_width false 32 ≡ Some 1
@@ -247,7 +208,7 @@ blanks_drawable : (n : ℕ) → AllDrawable (blank_row n)
 blanks_drawable zero = tt
 blanks_drawable (suc n) = (((blank_width, tt), (tt, tt)), blanks_drawable n)
 
-row_drawable : (rows : List (List Cell)) (at : ℕ) → AllRowsDrawable rows → AllDrawable (row_at rows at)
+pub row_drawable : (rows : List (List Cell)) (at : ℕ) → AllRowsDrawable rows → AllDrawable (row_at rows at)
 row_drawable [] at h = tt
 row_drawable (r ∷ rs) zero h = h.0
 row_drawable (r ∷ rs) (suc at) h = row_drawable rs at h.1

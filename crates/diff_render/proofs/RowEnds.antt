@@ -9,10 +9,11 @@ use Rattle.cell_grid.specs.Attrs.{plain}
 use Rattle.cell_grid.specs.Cell.{blank, same_cell}
 use Rattle.cell_grid.specs.Same.{same_cell-Decides}
 use Rattle.cell_grid.specs.Row.{IsWhole, mend_end, mend_start, blank_row, laid_at}
+use Rattle.cell_grid.specs.Grid.{blank_rows}
 use Rattle.diff_render.specs.declared.writer.Writer.{Writer}
 use Rattle.diff_render.specs.Changes.{cell_at, one_if_not, changed_in}
-use Rattle.diff_render.specs.Writer.{IsPlaced, Moves, Erases, Stood}
-use Rattle.diff_render.specs.Redrawing.{IsBlankFrom, settled, half_drawn, RowSoFar, Updates}
+use Rattle.diff_render.specs.Writer.{IsPlaced, Moves, Erases, ErasesBelow, Stood}
+use Rattle.diff_render.specs.Redrawing.{ErasesFrom, IsBlankFrom, settled, half_drawn, RowSoFar, Updates}
 use Rattle.diff_render.proofs.CellSteps.{not_false, not_true}
 use Rattle.diff_render.proofs.Moves.{same_then}
 use Rattle.diff_render.proofs.RowSteps.{front_kept, start_kept, settled_whole, length_half}
@@ -158,6 +159,32 @@ updates_line w a v row old new same_length goes drawn = record {
   placed = drawn.placed;
   short = omega (arith, goes.short, drawn.short, goes.to_row, drawn.to_row, nothing_left old new same_length);
 }
+
+-- a line is redrawn before a column, and all is erased from there on
+pub erases_from : (w a b c d x : Writer) (row col : ℕ) (old new : List Cell) → length old ≡ w.cols → length new ≡ w.cols → col < length new → IsBlankFrom col new → IsWhole new
+    → Moves w a row w.col w.pen (row - w.row + 6) → RowSoFar a b old new col → Moves b c b.row col b.pen 7 → Moves c d c.row c.col plain 3 → ErasesBelow d x
+    → ErasesFrom w x row col old new
+erases_from w a b c d x row col old new long_old long_new within blanks whole goes drawn columns takes erases =
+    let row_is : d.row ≡ row = takes.to_row ∙ columns.to_row ∙ drawn.to_row ∙ goes.to_row in
+    let col_is : d.col ≡ col = takes.to_col ∙ columns.to_col in
+    let same = same_then w a d goes.same (same_then a b d drawn.same (same_then b c d columns.same takes.same)) in
+    let half = half_drawn old new col in
+    let line : laid_at half d.col (blank_row (d.cols - d.col)) ≡ new =
+    ap (λ k. laid_at half k (blank_row (d.cols - k))) col_is ∙ ap (λ n. laid_at half col (blank_row (n - col))) same.cols
+    ∙ erased_is_new old new col w.cols long_old long_new within blanks whole in
+    record {
+      stands = λ ok from above below place may stood.
+          subst (λ ls. Stood ok x from ls) (λ i. above ++ line i ∷ blank_rows (length below) (same.cols i))
+          (erases.stands ok from above below half (place ∙ sym row_is)
+          (takes.stands ok from (above ++ half ∷ below)
+          (columns.stands ok from (above ++ half ∷ below)
+          (drawn.stands ok from above below (place ∙ sym goes.to_row) (λ at differ. ap (λ r. ok r at) goes.to_row ∙ may at differ)
+          (goes.stands ok from (above ++ old ∷ below) stood)))));
+      to_row = erases.to_row ∙ row_is;
+      same = same_then w d x same erases.same;
+      placed = erases.placed;
+      short = omega (arith, goes.short, drawn.short, columns.short, takes.short, erases.short);
+    }
 
 -- what a comparison of the rests says
 pub rests_differ : (a b x y : List Cell) → a ≡ x → b ≡ y → true ≡ not (pointwise same_cell a b) → pointwise same_cell x y ≡ false

@@ -1,5 +1,5 @@
 -- What a frame does: the terminal that obeyed it shows the new drawing, whatever it had before the base line.
-use Rattle.std.specs.Prelude.{◌≡◌, ℕ, ◌+◌, ◌-◌, ◌*◌, ◌<◌, ◌≤◌, Bool, true, false, not, ◌&&◌, List, [], ◌++◌, None, length, take, max}
+use Rattle.std.specs.Prelude.{◌≡◌, ℕ, ◌+◌, ◌-◌, ◌*◌, ◌<◌, ◌≤◌, Bool, true, false, not, ◌&&◌, List, [], ◌++◌, Option, Some, None, length, take, max}
 use Rattle.cell_grid.specs.declared.cell.Cell.{Cell}
 use Rattle.cell_grid.specs.declared.drawing.Drawing.{Drawing}
 use Rattle.cell_grid.specs.Attrs.{plain}
@@ -126,6 +126,17 @@ AsksWhere false size screen frame = asked frame ≡ 0
 abbrev pub screen_after : Bool → Drawing → Extent → OnScreen
 screen_after true drawing size = Nothing
 screen_after false drawing size = Drawn drawing size
+
+-- the base line of the drawing that comes behind one: the same one, or behind the last drawing of a prompt the line below it
+abbrev pub base_after : Bool → Drawing → ℕ → ℕ
+base_after true drawing base = base + length drawing.grid
+base_after false drawing base = base
+
+-- the row of the cursor that is shown
+abbrev pub shown_row : OnScreen → Option ℕ
+shown_row Nothing = None
+shown_row (Drawn drawing size) = Some drawing.row
+shown_row (Resized row) = Some row
 
 -- the screen whose size was forgotten: the row of its cursor is kept
 abbrev pub forgetting : OnScreen → OnScreen

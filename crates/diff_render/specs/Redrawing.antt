@@ -4,6 +4,7 @@ use Rattle.cell_grid.specs.declared.cell.Cell.{Cell}
 use Rattle.cell_grid.specs.declared.cell.Cell.TheVariants.{Lead, Tail}
 use Rattle.cell_grid.specs.Cell.{blank, same_cell}
 use Rattle.cell_grid.specs.Row.{mend_start, put_at}
+use Rattle.cell_grid.specs.Grid.{blank_rows}
 use Rattle.diff_render.specs.Canvas.{Canvas}
 use Rattle.diff_render.specs.Changes.{cell_at, one_if_not, changed_in}
 use Rattle.diff_render.specs.Writer.{written, IsPlaced, IsSameScreen, Stood}
@@ -58,6 +59,15 @@ pub record Updates (w v : Writer) (row : ℕ) (old new : List Cell) (cost : ℕ)
   pub same : IsSameScreen w v
   pub placed : IsPlaced v
   pub short : length (written v) + (row + 1 - v.row) ≤ length (written w) + (row - w.row) + cost + 128 * changed_in old new
+
+-- a writer has redrawn a line of this number before a column, and erased all from there on
+pub record ErasesFrom (w v : Writer) (row col : ℕ) (old new : List Cell) : Type 0 where
+  pub stands : (ok : ℕ → ℕ → Bool) (from : Canvas) (above below : List (List Cell)) → length above ≡ row → MayTouch ok row old new
+      → Stood ok w from (above ++ old ∷ below) → Stood ok v from (above ++ new ∷ blank_rows (length below) w.cols)
+  pub to_row : v.row ≡ row
+  pub same : IsSameScreen w v
+  pub placed : IsPlaced v
+  pub short : length (written v) + 128 * changed_in (drop col old) (drop col new) ≤ length (written w) + (row - w.row) + 19 + 128 * changed_in old new
 
 -- all cells of a row from a column on are blank
 abbrev pub IsBlankFrom : ℕ → List Cell → Type 0

@@ -34,24 +34,14 @@ pub record GrowsTo (w v : Writer) (height : ℕ) : Type 0 where
   pub placed : IsPlaced v
   pub short : length (written v) ≤ length (written w) + (height - w.height)
 
--- blank lines come behind the others where there are fewer than a height
-pub record Reaches (w v : Writer) (height : ℕ) : Type 0 where
-  pub stands : (ok : ℕ → ℕ → Bool) (from : Canvas) (lines : List (List Cell)) → Stood ok w from lines
-      → Stood ok v from (lines ++ blank_rows (height - w.height) w.cols)
-  pub rows : v.rows ≡ w.rows
-  pub cols : v.cols ≡ w.cols
-  pub to_height : v.height ≡ max w.height height
-  pub placed : IsPlaced v
-  pub short : length (written v) ≤ length (written w) + (v.height + 6)
-
--- a writer has redrawn the lines before one: what is left is paid already
-pub record RowsSoFar (w v : Writer) (old new : List (List Cell)) (at : ℕ) : Type 0 where
+-- a writer has redrawn the lines from one on and before another: what is left is paid already
+pub record RowsSoFar (w v : Writer) (old new : List (List Cell)) (first at : ℕ) : Type 0 where
   pub stands : (ok : ℕ → ℕ → Bool) (from : Canvas) → MayTouchRows ok old new → Stood ok w from (padded w.height w.cols old)
       → Stood ok v from (take at (padded w.height w.cols new) ++ drop at (padded w.height w.cols old))
   pub same : IsSameScreen w v
   pub placed : IsPlaced v
   pub short : length (written v) + (at - v.row) + 128 * changed_rows w.cols (drop at (padded w.height w.cols old)) (drop at (padded w.height w.cols new))
-      ≤ length (written w) + 7 * at + 128 * changed_rows w.cols (padded w.height w.cols old) (padded w.height w.cols new)
+      ≤ length (written w) + 7 * (at - first) + 128 * changed_rows w.cols (padded w.height w.cols old) (padded w.height w.cols new)
 
 -- a writer has made the lines of a drawing those of another one
 pub record Redrawn (w v : Writer) (old new : List (List Cell)) : Type 0 where
@@ -60,7 +50,7 @@ pub record Redrawn (w v : Writer) (old new : List (List Cell)) : Type 0 where
   pub cols : v.cols ≡ w.cols
   pub to_height : v.height ≡ max (length old) (length new)
   pub placed : IsPlaced v
-  pub short : length (written v) ≤ length (written w) + 8 * v.height + 6 + 128 * changed_rows w.cols old new
+  pub short : length (written v) ≤ length (written w) + 8 * v.height + 9 + 128 * changed_rows w.cols old new
 
 -- all rows of a drawing from one on are blank
 abbrev pub IsBlankBelow : ℕ → List (List Cell) → Type 0
@@ -69,3 +59,7 @@ IsBlankBelow at rows = (k : ℕ) → at ≤ k → k < length rows → row_at row
 -- the row of this number is not blank
 abbrev pub IsDrawnRow : ℕ → List (List Cell) → Type 0
 IsDrawnRow at rows = pointwise same_cell (row_at rows at) (blank_row (columns rows)) ≡ false
+
+-- something changes from a row on
+abbrev pub IsErasedBelow : ℕ → ℕ → ℕ → List (List Cell) → List (List Cell) → Type 0
+IsErasedBelow height cols end old new = 1 ≤ changed_rows cols (drop end (padded height cols old)) (drop end (padded height cols new))

@@ -35,7 +35,7 @@ pub record Turns (rows cols : ℕ) (old : List (List Cell)) (row col : ℕ) (dra
       → Agree (acted x (reads bytes)) (put t base drawing done)
   pub touches : (ok : ℕ → ℕ → Bool) → MayTouchRows ok old drawing.grid → (t : Term) (base : ℕ) → IsBase t base rows cols → (x : Term)
       → On t base (canvas_of old row col plain) x → Touches ok x base (reads bytes)
-  pub short : length bytes ≤ 9 * max (length old) (length drawing.grid) + 31 + 128 * changed_rows cols old drawing.grid
+  pub short : length bytes ≤ 9 * max (length old) (length drawing.grid) + 33 + 128 * changed_rows cols old drawing.grid
 
 -- bytes that begin a drawing anew where the cursor is so many rows below the base line
 pub record BeginsAnew (size : Extent) (up : ℕ) (drawing : Drawing) (done asks : Bool) (bytes : List ℕ) : Type 0 where

@@ -3,7 +3,7 @@ ghost use Rattle.std.specs.Prelude.{◌≡◌, ◌+◌, ◌-◌, ◌*◌, ◌<�
 ghost use Rattle.cell_grid.specs.Cell.{same_cell};
 ghost use Rattle.cell_grid.specs.Grid.{IsRow};
 ghost use Rattle.cell_grid.specs.Drawable.{IsDrawable, AllDrawable};
-ghost use Rattle.diff_render.specs.Redrawing.{IsBlankFrom, Redraws, RowSoFar, Updates};
+ghost use Rattle.diff_render.specs.Redrawing.{ErasesFrom, IsBlankFrom, Redraws, RowSoFar, Updates};
 ghost use Rattle.diff_render.specs.Writer.{IsPlaced};
 ghost use Rattle.diff_render.specs.Fits.{FitsAt};
 
@@ -65,6 +65,21 @@ fn blank_from(cells: &[Cell]) -> usize
     end
 }
 
+/// The column from which on a row becomes blank where it was not: the first one behind the new cells at
+/// which the old row differs, or the row's end.
+pub(crate) fn erased_from(old: &[Cell], new: &[Cell]) -> usize
+    requires { length old.now ≡ length new.now }
+    ensures within { result ≤ length new.now }
+    ensures blank { IsBlankFrom result new.now }
+{
+    for at in blank_from(new)..new.len() {
+        if differ(&old[at], &new[at]) {
+            return at;
+        }
+    }
+    new.len()
+}
+
 /// Redraws the writer's line. Where it becomes blank at its end, it is erased there.
 fn draw_line(w: &mut Writer, old: &[Cell], new: &[Cell]) -> Result<(), AllocError>
     requires placed { IsPlaced w.old }
@@ -73,7 +88,7 @@ fn draw_line(w: &mut Writer, old: &[Cell], new: &[Cell]) -> Result<(), AllocErro
     requires cells { AllDrawable new.now }
     ensures { OnOk result (RowSoFar w.old w.new old.now new.now (length new.now)) }
 {
-    let end = blank_from(new);
+    let end = erased_from(old, new);
     draw_cells(w, old, new, end)?;
     let (_old_front, old_rest) = old.split_at(end);
     let (_new_front, new_rest) = new.split_at(end);
@@ -82,6 +97,31 @@ fn draw_line(w: &mut Writer, old: &[Cell], new: &[Cell]) -> Result<(), AllocErro
         w.use_plain_pen()?;
         w.erase_line()?;
     }
+    Ok(())
+}
+
+/// Redraws a line before a column, and erases all from there on, the lines below too.
+pub(crate) fn erase_from(
+    w: &mut Writer,
+    row: u32,
+    col: usize,
+    old: &[Cell],
+    new: &[Cell],
+) -> Result<(), AllocError>
+    requires placed { IsPlaced w.old }
+    requires old_row { IsRow w.old.cols old.now }
+    requires new_row { IsRow w.old.cols new.now }
+    requires cells { AllDrawable new.now }
+    requires in_rows { row < w.old.height }
+    requires in_cols { col < length new.now }
+    requires blank { IsBlankFrom col new.now }
+    ensures { OnOk result (ErasesFrom w.old w.new row col old.now new.now) }
+{
+    w.go_row(row)?;
+    draw_cells(w, old, new, col)?;
+    w.go_col(col as u32)?;
+    w.use_plain_pen()?;
+    w.erase_below()?;
     Ok(())
 }
 

@@ -33,9 +33,9 @@ impl Model for Shown {
 
 impl Shown {
     ghost use Rattle.std.specs.Prelude.{◌≡◌};
-    ghost use Rattle.diff_render.specs.Frames.{forgetting};
+    ghost use Rattle.diff_render.specs.Frames.{forgetting, shown_row};
 
-    /// Nothing is on the screen, so that the next drawing begins on the cursor's line.
+    /// Makes a screen with nothing on it, so that the next drawing begins on the cursor's line.
     pub fn nothing() -> Shown
         ensures { result ≡ OnScreen.Nothing }
     {
@@ -44,8 +44,19 @@ impl Shown {
         }
     }
 
-    /// The screen has another size: what is on it is drawn anew by the next frame, from the line on
-    /// that the cursor's row leads up to.
+    /// Returns the row of the cursor in what is shown, or none where nothing is.
+    pub fn row(&self) -> Option<u32>
+        ensures { result ≡ shown_row self.now }
+    {
+        match &self.screen {
+            OnScreen::Nothing => None,
+            OnScreen::Drawn { drawing, .. } => Some(drawing.row),
+            OnScreen::Resized { row } => Some(*row),
+        }
+    }
+
+    /// Forgets the size of what is shown, since the screen has another one: what is
+    /// on it is drawn anew by the next frame, from the line on that the cursor's row leads up to.
     pub fn forget_size(&mut self)
         ensures { self.new ≡ forgetting self.old }
     {

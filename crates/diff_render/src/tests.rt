@@ -71,6 +71,8 @@ fn spells_small_changes_with_few_bytes(rt: HostRuntime) -> Result<(), Fail> {
     let cases = [
         ("> hello", 7, "> hellox", 8, "x"),
         ("> hello", 7, "> hell", 6, "\x1b[D\x1b[K"),
+        ("> hello w", 9, "> hello ", 8, "\x1b[D\x1b[K"),
+        ("> a", 3, "> ", 2, "\x1b[D\x1b[K"),
         ("> hello", 7, "> hello", 6, "\x1b[D"),
         ("> hello", 7, "> hello", 7, ""),
         ("> hello", 7, "> hello", 57, "\x1b[50C"),
@@ -92,6 +94,73 @@ fn spells_small_changes_with_few_bytes(rt: HostRuntime) -> Result<(), Fail> {
     Ok(())
 }
 
+/// A text of so many letters that wraps, with the cursor behind one of them. An `X` stands among them at
+/// a place, if there is such a place.
+fn letters(alloc: Global, count: u32, at: u32, inserted: u32) -> Result<Drawing, Fail> {
+    let rows = count / 80 + 1;
+    if rows > 24 || at > count {
+        return Err("too many letters".into());
+    }
+    let mut grid = Grid::blank(alloc, rows, 80)?;
+    for place in 0..count {
+        let (row, col) = (place / 80, place % 80);
+        let c = match place {
+            _ if place == inserted => 'X',
+            _ if place > inserted => char::from(b'a' + ((place - 1) % 26) as u8),
+            _ => char::from(b'a' + (place % 26) as u8),
+        };
+        if row < grid.rows() && col < grid.cols() {
+            grid.put(row, col, Cell::narrow(c, Attrs::plain()));
+        }
+    }
+    Ok(Drawing {
+        grid,
+        row: at / 80,
+        col: at % 80,
+    })
+}
+
+/// How many bytes lead from letters to others, with or without an inserted one.
+fn letters_cost(alloc: Global, from: (u32, u32), to: (u32, u32, u32)) -> Result<usize, Fail> {
+    let old = letters(alloc, from.0, from.1, 1000)?;
+    let new = letters(alloc, to.0, to.1, to.2)?;
+    Ok(turn(alloc, &old, &new)?.len())
+}
+
+#[test]
+fn wraps_and_kills_with_few_bytes(rt: HostRuntime) -> Result<(), Fail> {
+    let alloc = rt.alloc();
+    assert!(rt; letters_cost(alloc, (79, 79), (80, 80, 1000))? == 3);
+    assert!(rt; letters_cost(alloc, (190, 20), (20, 20, 1000))? == 3);
+    assert!(rt; letters_cost(alloc, (140, 40), (141, 41, 40))? <= 111);
+    let mut sum = 0usize;
+    for count in 0..200 {
+        sum = sum.saturating_add(letters_cost(
+            alloc,
+            (count, count),
+            (count + 1, count + 1, 1000),
+        )?);
+    }
+    assert!(rt; sum <= 204);
+    Ok(())
+}
+
+#[test]
+fn tells_the_row_of_what_is_shown(rt: HostRuntime) -> Result<(), Fail> {
+    let alloc = rt.alloc();
+    let size = Size::new(24, 80).ok_or("no such size")?;
+    let mut shown = Shown::nothing();
+    assert!(rt; shown.row() == None);
+    let drawing = plain_drawing(alloc, &["a", "b"], 1, 0)?;
+    frame_of(alloc, &mut shown, &drawing, size, false, false)?;
+    assert!(rt; shown.row() == Some(1));
+    shown.forget_size();
+    assert!(rt; shown.row() == Some(1));
+    frame_of(alloc, &mut shown, &drawing, size, true, false)?;
+    assert!(rt; shown.row() == None);
+    Ok(())
+}
+
 #[test]
 fn begins_and_ends_a_prompt(rt: HostRuntime) -> Result<(), Fail> {
     let alloc = rt.alloc();
@@ -108,30 +177,72 @@ fn begins_and_ends_a_prompt(rt: HostRuntime) -> Result<(), Fail> {
     Ok(())
 }
 
-#[test]
-fn draws_a_menu_with_few_bytes(rt: HostRuntime) -> Result<(), Fail> {
-    let alloc = rt.alloc();
+/// A prompt with a menu of 16 items below it, one of which may be selected.
+fn menu_drawing(alloc: Global, selected: u32) -> Result<Drawing, Fail> {
+    let mut grid = grid_of(alloc, &["> "; 17], 80, Attrs::plain())?;
     let mut attrs = Attrs::plain();
-    attrs.reverse = true;
-    let mut grid = grid_of(
-        alloc,
-        &[
-            "menu97", "menu01", "menu02", "menu03", "menu04", "menu05", "menu06", "menu07",
-            "menu08", "menu09", "menu10", "menu11", "menu12", "menu13", "menu14", "menu15",
-        ],
-        80,
-        attrs,
-    )?;
-    if grid.rows() == 16 && grid.cols() == 80 {
-        grid.put(0, 6, Cell::narrow('!', attrs));
+    attrs.fg = Some(Colour::Ansi(0));
+    attrs.bg = Some(Colour::Ansi(7));
+    for item in 1..17u32 {
+        attrs.reverse = item == selected;
+        for (col, c) in (0..80u32).zip("  item a  ".chars()) {
+            if item < grid.rows() && col < grid.cols() {
+                let cell = if col < 2 {
+                    Cell::blank()
+                } else {
+                    Cell::narrow(c, attrs)
+                };
+                grid.put(item, col, cell);
+            }
+        }
     }
-    let menu = Drawing {
+    Ok(Drawing {
         grid,
         row: 0,
         col: 2,
+    })
+}
+
+#[test]
+fn draws_a_menu_with_few_bytes(rt: HostRuntime) -> Result<(), Fail> {
+    let alloc = rt.alloc();
+    let prompt = plain_drawing(alloc, &["> "], 0, 2)?;
+    let menu = menu_drawing(alloc, 1)?;
+    let next = menu_drawing(alloc, 2)?;
+    assert!(rt; turn(alloc, &prompt, &menu_drawing(alloc, 0)?)?.len() <= 247);
+    assert!(rt; turn(alloc, &menu, &next)?.len() <= 53);
+    assert!(rt; turn(alloc, &next, &prompt)?.len() <= 12);
+    Ok(())
+}
+
+#[test]
+fn adds_to_a_pen_or_begins_it_anew(rt: HostRuntime) -> Result<(), Fail> {
+    let alloc = rt.alloc();
+    let size = Size::new(24, 80).ok_or("no such size")?;
+    let mut red = Attrs::plain();
+    red.fg = Some(Colour::Ansi(1));
+    let mut bold = red;
+    bold.bold = true;
+    let mut reverse = Attrs::plain();
+    reverse.reverse = true;
+    let mut grid = Grid::blank(alloc, 1, 80)?;
+    if grid.cols() == 80 && grid.rows() == 1 {
+        grid.put(0, 0, Cell::narrow('a', red));
+        grid.put(0, 1, Cell::narrow('b', bold));
+        grid.put(0, 2, Cell::narrow('c', reverse));
+    }
+    let drawing = Drawing {
+        grid,
+        row: 0,
+        col: 3,
     };
-    let empty = plain_drawing(alloc, &[""], 0, 2)?;
-    assert!(rt; turn(alloc, &empty, &menu)?.len() <= 350);
+    let mut shown = Shown::nothing();
+    let got = frame_of(alloc, &mut shown, &drawing, size, false, false)?;
+    let opening = "\r\x1b[m\x1b[J\x1b[?7l\x1b[?2004h\x1b[?25h";
+    let rest = "\x1b[31ma\x1b[1mb\x1b[;7mc\x1b[m";
+    assert!(rt; got.as_slice().starts_with(opening.as_bytes()));
+    assert!(rt; got.as_slice().ends_with(rest.as_bytes()));
+    assert!(rt; got.len() == opening.len() + rest.len());
     Ok(())
 }
 

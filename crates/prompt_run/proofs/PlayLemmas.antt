@@ -29,7 +29,8 @@ use Rattle.prompt_run.specs.Terminals.{Keeps, Obeys}
 use Rattle.prompt_run.specs.Turn.{ShowsState}
 use Rattle.prompt_run.specs.declared.players.Player.{Player}
 use Rattle.prompt_run.proofs.TurnLemmas.{drawn_behind}
-use Rattle.prompt_run.proofs.ShowLemmas.{agree_at, base_agree, begins_again, begins_at, put-agree}
+use Rattle.diff_render.proofs.Chaining.{begins_again, put-agree}
+use Rattle.prompt_run.proofs.ShowLemmas.{agree_at, base_agree, begins_at}
 
 -- ---- sizes
 

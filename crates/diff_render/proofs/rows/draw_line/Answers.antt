@@ -5,7 +5,7 @@ use Rattle.diff_render.proofs.rows.draw_line.Goals.{else-end-new-via-then-end-ne
 
 pub returns-in_ok-erase_line : goal.returns-in_ok-erase_line
 returns-in_ok-erase_line c =
-    row_erased _ _ _ _ _ _ _ _ c.requires.old_row.long c.requires.new_row.long c.if-end-new.true c.blank_from-end.ensures.blank c.requires.new_row.whole
+    row_erased _ _ _ _ _ _ _ _ c.requires.old_row.long c.requires.new_row.long c.if-end-new.true c.erased_from-end.ensures.blank c.requires.new_row.whole
     (rests_differ _ _ _ _ c.split_at.ensures.back c.split_at-2.ensures.back c.if-ne.ensures) c.in_ok-draw_cells.ensures c.in_ok-go_col.ensures
     c.in_ok-use_plain_pen.ensures c.in_ok-erase_line.ensures
 
@@ -14,9 +14,9 @@ returns-else-end-new c =
     let same : length c.args.old.now ≡ length c.args.new.now = c.requires.old_row.long ∙ sym c.requires.new_row.long in
     elim c.else-end-new.branch [
       | else-end-new-via-then-end-new+else-ne w ↦
-          row_same_end _ _ _ _ _ same c.blank_from-end.ensures.within c.blank_from-end.ensures.blank
+          row_same_end _ _ _ _ _ same c.erased_from-end.ensures.within c.erased_from-end.ensures.blank
           (rests_same _ _ _ _ c.split_at.ensures.back c.split_at-2.ensures.back w.if-ne.ensures) c.in_ok-draw_cells.ensures
       | else-end-new-via-else-end-new w ↦
-          row_same_end _ _ _ _ _ same c.blank_from-end.ensures.within c.blank_from-end.ensures.blank (rests_none c.args.old.now c.args.new.now c.blank_from-end.result same w.if-end-new.false)
+          row_same_end _ _ _ _ _ same c.erased_from-end.ensures.within c.erased_from-end.ensures.blank (rests_none c.args.old.now c.args.new.now c.erased_from-end.result same w.if-end-new.false)
           c.in_ok-draw_cells.ensures
     ]

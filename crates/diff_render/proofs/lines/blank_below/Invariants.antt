@@ -2,7 +2,7 @@ use Rattle.std.proofs.Common.{◌≡◌, ◌-◌, ◌≤◌, ◌<◌, ℕ}
 use Rattle.cell_grid.specs.Row.{blank_row}
 use Rattle.cell_grid.specs.Grid.{columns, row_at}
 use Rattle.diff_render.specs.Redrawn.{IsDrawnRow}
-use Rattle.diff_render.proofs.lines.blank_from.Given as goal
+use Rattle.diff_render.proofs.lines.blank_below.Given as goal
 
 abbrev pub invariant-loop-row : goal.invariant-loop-row
 invariant-loop-row l = record {

@@ -1,8 +1,8 @@
 use Rattle.std.proofs.Common.{◌-◌, sym, subst, arith}
 use Rattle.diff_render.specs.Redrawn.{IsDrawnRow}
 use Rattle.diff_render.proofs.LineEnds.{drawn_row, blanks_more}
-use Rattle.diff_render.proofs.lines.blank_from.Goals as goal
-use Rattle.diff_render.proofs.lines.blank_from.Goals.{then-ne, else-ne}
+use Rattle.diff_render.proofs.lines.blank_below.Goals as goal
+use Rattle.diff_render.proofs.lines.blank_below.Goals.{then-ne, else-ne}
 
 pub loop-row-preserved : goal.loop-row-preserved
 loop-row-preserved c =
