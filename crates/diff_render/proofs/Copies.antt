@@ -1,8 +1,8 @@
 -- Drawings that are compared and copied.
 use Prim.Native.Nat.{suc}
-use Rattle.std.proofs.Common.{◌≡◌, ℕ, ◌+◌, ◌<◌, ◌≤◌, Bool, true, false, not, List, [], ◌∷◌, ◌++◌, length, take, refl, sym, ap, ◌∙◌, subst, arith, append-nil}
+use Rattle.std.proofs.Common.{◌≡◌, ℕ, ◌+◌, ◌<◌, ◌≤◌, Bool, true, false, not, List, [], ◌∷◌, ◌++◌, length, take, refl, sym, ap, ◌∙◌, subst, arith, append-nil, slice_set}
 use Rattle.std.proofs.Math.Seq.{take-suc, take-length}
-use Rattle.std.proofs.lemmas.List.{length-replicate}
+use Rattle.std.proofs.lemmas.List.{set-get_or, take_more, take_more_set}
 use Rattle.cell_grid.specs.declared.cell.Cell.{Cell}
 use Rattle.cell_grid.specs.declared.drawing.Drawing.{Drawing}
 use Rattle.std.proofs.lemmas.Bool.{false≢true}
@@ -20,28 +20,25 @@ use Rattle.diff_render.proofs.CellSteps.{not_false, not_true}
 
 -- ---- copies
 
-row_copied : (cols : ℕ) (cells : List Cell) → IsRow cols cells → laid_at (blank_row cols) 0 cells ≡ cells
-row_copied cols cells is =
-    ap (λ x. cells ++ mend_start x) (rest_none (blank_row cols) (0 + length cells) (omega (arith, is.long, length-replicate cols blank))) ∙ append-nil cells
+-- whole cells that are laid over a row of their number
+pub row_laid : (row cells : List Cell) → length row ≡ length cells → laid_at row 0 cells ≡ cells
+row_laid row cells long = ap (λ x. cells ++ mend_start x) (rest_none row (0 + length cells) (omega arith)) ∙ append-nil cells
 
-rows_copied : (cols : ℕ) (part : List (List Cell)) → AllRows cols part → laid_over (blank_rows (length part) cols) part 0 ≡ part
-rows_copied cols [] h = refl
-rows_copied cols (cells ∷ part) h =
-    ap (λ r. r ∷ laid_over (blank_rows (length part) cols) part 0) (row_copied cols cells h.0) ∙ ap (λ rs. cells ∷ rs) (rows_copied cols part h.1)
+-- a row is put in place of another one, or stays where it is the same
+pub row_kept : (old new : List (List Cell)) (cells before : List Cell) (row : ℕ) → before ≡ row_at old row → length before ≡ length cells
+    → new ≡ slice_set old row (laid_at (row_at old row) 0 cells) → new ≡ slice_set old row cells
+row_kept old new cells before row is long laid =
+    laid ∙ ap (λ r. slice_set old row r) (row_laid (row_at old row) cells (ap length (sym is) ∙ long))
 
--- a part that is laid over as many blank rows
-pub copied : (rows cols : ℕ) (part old new : List (List Cell)) → AllRows cols part → rows ≡ length part → old ≡ blank_rows rows cols → new ≡ blitted old part 0 0 → new ≡ part
-copied rows cols part old new h count was is =
-    is ∙ ap (λ o. blitted o part 0 0) (was ∙ ap (λ n. blank_rows n cols) count) ∙ rows_copied cols part h
+pub row_stays : (old : List (List Cell)) (cells : List Cell) (row : ℕ) → row_at old row ≡ cells → old ≡ slice_set old row cells
+row_stays old cells row same = sym (ap (λ r. slice_set old row r) (sym same) ∙ set-get_or old row [])
 
-pub drawn_copy : (size : Extent) (done : Bool) (drawing : Drawing) (new : List (List Cell)) → done ≡ false → new ≡ drawing.grid
-    → Drawn (record { grid = new; row = drawing.row; col = drawing.col }) size ≡ screen_after done drawing size
-drawn_copy size done drawing new open_still is = (λ i. Drawn (record { grid = is i; row = drawing.row; col = drawing.col }) size) ∙ ap (λ d. screen_after d drawing size) (sym open_still)
-
-pub kept_copy : (size : Extent) (drawing : Drawing) (new : List (List Cell)) → new ≡ drawing.grid → FitsScreen size drawing → HasCursor drawing → length drawing.grid ≤ 1000
-    → IsKept (Drawn (record { grid = new; row = drawing.row; col = drawing.col }) size)
-kept_copy size drawing new is fits cursor few =
-    subst (λ g. IsKept (Drawn (record { grid = g; row = drawing.row; col = drawing.col }) size)) (sym is) (fits, cursor, omega (arith, cursor.in_rows))
+-- one row more is kept
+pub rows_kept : (kept new grid : List (List Cell)) (row : ℕ) → row < length kept → row < length grid → take row kept ≡ take row grid
+    → new ≡ slice_set kept row (row_at grid row) → take (row + 1) new ≡ take (row + 1) grid
+rows_kept kept new grid row in_kept in_grid so_far is =
+    ap (take (row + 1)) is ∙ take_more_set kept row (row_at grid row) in_kept ∙ ap (λ rs. rs ++ row_at grid row ∷ []) so_far
+    ∙ sym (take_more grid row [] in_grid)
 
 -- ---- comparisons
 

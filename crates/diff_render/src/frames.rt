@@ -10,6 +10,7 @@ ghost use Rattle.diff_render.specs.Opening.{opening_of};
 ghost use Rattle.diff_render.specs.Turning.{BeginsAnew, Closes, Turns};
 ghost use Rattle.diff_render.specs.Writer.{IsPlaced, Moves};
 
+use crate::kept::keep;
 use crate::lines::redraw;
 use crate::shown::{OnScreen, Shown};
 use crate::spelling::push_arrow;
@@ -184,32 +185,6 @@ fn bytes_of(
     }
 }
 
-/// What is on the screen after a frame.
-fn screen_after(
-    alloc: Global,
-    drawing: &Drawing,
-    size: Size,
-    done: bool,
-) -> Result<OnScreen, AllocError>
-    requires fits { FitsScreen size drawing.now }
-    requires cursor { done ≡ false → HasCursor drawing.now }
-    ensures screen { IfOk result (λ screen. screen ≡ screen_after done drawing.now size) }
-    ensures kept { IfOk result IsKept }
-{
-    if done {
-        return Ok(OnScreen::Nothing);
-    }
-    let rows = drawing.grid.rows();
-    let mut grid = Grid::blank(alloc, rows, drawing.grid.cols())?;
-    grid.blit(&drawing.grid, 0, 0)?;
-    let drawing = Drawing {
-        grid,
-        row: drawing.row,
-        col: drawing.col,
-    };
-    Ok(OnScreen::Drawn { drawing, size })
-}
-
 /// The bytes that turn what is on the screen into a drawing, which is on the screen then. With `done`
 /// the drawing is the last one of its prompt: the cursor goes behind it, the terminal's modes are those
 /// outside a prompt, and nothing is on the screen then. With `ask` a drawing that is begun anew asks the
@@ -234,6 +209,10 @@ pub fn frame(
     ensures err { OnErr result (shown.new ≡ shown.old) }
 {
     let bytes = bytes_of(alloc, &shown.screen, drawing, size, done, ask)?;
-    shown.screen = screen_after(alloc, drawing, size, done)?;
+    if done {
+        shown.screen = OnScreen::Nothing;
+    } else {
+        keep(alloc, &mut shown.screen, drawing, size)?;
+    }
     Ok(Bytes::from_vec(bytes.into_bytes()))
 }

@@ -15,6 +15,7 @@
 #![tactic(auto)]
 
 mod frames;
+mod kept;
 pub mod laws;
 mod lines;
 mod moving;
