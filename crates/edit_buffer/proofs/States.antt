@@ -61,6 +61,22 @@ state_of-cancelled b m d left present closed original =
     (ap (λ lines. record (state_of b) { doc = choice m None; lines = lines; menu = None })
     (sym (set-set b.lines.items b.index b.doc.text m.original.text)))
 
+pub IsBufferState-cancelled : (b : BufferState) (m : Menu) → IsBufferState b → b.menu ≡ Some m → IsBufferState (cancelled_in b.menu b)
+IsBufferState-cancelled b m kept present =
+    let before : IsMenu m = kept.menu m present in
+    let original : IsDocument m.original = before.original in
+    let document : IsDocument (choice m None) = record { short = original.short; cursor_within = original.cursor_within; mark_within = λ n e. cc } in
+    let with_doc = IsBufferState-with_document b (choice m None) kept document in
+    let P : Option Menu → Type 0 = λ o. IsBufferState (cancelled_in o b) in
+    subst P (sym present) (record {
+      document = with_doc.document;
+      index = with_doc.index;
+      present = with_doc.present;
+      short = with_doc.short;
+      pairs = with_doc.pairs;
+      menu = λ n e. cc;
+    })
+
 -- the fields of a new buffer
 pub record IsOpened (b : Inside) (history : List (List ℕ)) (text : List ℕ) : Type 0 where
   pub doc : b.doc ≡ record { text = text; cursor = length text; mark = None }

@@ -5,7 +5,7 @@ ghost use Rattle.text_doc.specs.Edits.{inserted, deleted};
 
 use crate::EditFault;
 use crate::replacements::replace_text;
-use text_doc::{Doc, InsertFault, Text};
+use text_doc::{Doc, Text};
 
 /// A change of a document.
 #[derive(Debug, Drop)]
@@ -101,11 +101,9 @@ fn insert_text(doc: &mut Doc, text: &Text) -> Result<bool, EditFault>
     ensures err { OnErr result (doc.new ≡ doc.old) }
     ensures document { IsDocument doc.new }
     ensures text { IfOk result (λ changed. (changed ≡ false) ↔ (doc.new.text ≡ doc.old.text)) }
-    ensures too_long { (result ≡ Err EditFault.TooLong) ↔ (32768 < length doc.old.text + length text.now) }
+    ensures too_long { (result ≡ Err EditFault.TooLong)
+        ↔ (32768 < length doc.old.text + length text.now) }
 {
-    match doc.insert(text.as_slice()) {
-        Ok(()) => Ok(!text.is_empty()),
-        Err(InsertFault::TooLong) => Err(EditFault::TooLong),
-        Err(InsertFault::NoMemory) => Err(EditFault::NoMemory),
-    }
+    doc.insert(text.as_slice())?;
+    Ok(!text.is_empty())
 }

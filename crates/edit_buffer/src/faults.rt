@@ -1,5 +1,5 @@
 //! Why an edit or a choice was refused.
-use text_doc::NoMemory;
+use text_doc::{InsertFault, NoMemory};
 use thiserror::Error;
 
 /// Why an edit or a choice was refused.
@@ -21,5 +21,20 @@ impl From<NoMemory> for EditFault {
 
     fn from(_error: text_doc::NoMemory) -> EditFault {
         EditFault::NoMemory
+    }
+}
+
+impl From<InsertFault> for EditFault {
+    ghost use Rattle.std.specs.Prelude.{◌≡◌, ◌↔◌};
+    ghost use Rattle.text_doc.specs.declared.faults.InsertFault.TheVariants as insert_fault;
+    ghost use Rattle.edit_buffer.specs.declared.faults.EditFault.TheVariants as edit_fault;
+
+    ghost from_gives = { λ insertion fault. (insertion ≡ insert_fault.TooLong) ↔ (fault ≡ edit_fault.TooLong) };
+
+    fn from(insertion: InsertFault) -> EditFault {
+        match insertion {
+            InsertFault::TooLong => EditFault::TooLong,
+            InsertFault::NoMemory => EditFault::NoMemory,
+        }
     }
 }

@@ -122,7 +122,8 @@ fn complete(original: &Doc, item: &Completion) -> Result<Doc, EditFault>
     requires { item.now.back ≤ original.now.cursor }
     ensures ok { IfOk result (λ doc. doc ≡ completed original.now (Some item.now)) }
     ensures document { IfOk result IsDocument }
-    ensures too_long { (result ≡ Err EditFault.TooLong) ↔ (32768 < length (completed original.now (Some item.now)).text) }
+    ensures too_long { (result ≡ Err EditFault.TooLong)
+        ↔ (32768 < length (completed original.now (Some item.now)).text) }
 {
     let to = original.cursor();
     let kept = original.len() - item.back;

@@ -76,8 +76,10 @@ fn go_to_line(
     requires line { line < length lines.old.items }
     requires place { at ≤ length (slice_index_or lines.old.items line []) }
     requires short { length (slice_index_or lines.old.items line []) ≤ 32768 }
-    ensures doc { OnOk result (doc.new ≡ record { text = slice_index_or lines.old.items line []; cursor = at; mark = None }) }
-    ensures lines { OnOk result (lines.new.items ≡ swap (slice_set lines.old.items line doc.old.text) present line) }
+    ensures doc { OnOk result (doc.new
+        ≡ record { text = slice_index_or lines.old.items line []; cursor = at; mark = None }) }
+    ensures lines { OnOk result (lines.new.items
+        ≡ swap (slice_set lines.old.items line doc.old.text) present line) }
     ensures doc_stays { OnErr result (doc.new ≡ doc.old) }
     ensures lines_stay { OnErr result (lines.new.items ≡ lines.old.items) }
     ensures document { IsDocument doc.new }

@@ -20,7 +20,8 @@ pub(crate) fn replace_text(
     ensures err { OnErr result (doc.new ≡ doc.old) }
     ensures document { IsDocument doc.new }
     ensures text { IfOk result (λ changed. (changed ≡ false) ↔ (doc.new.text ≡ doc.old.text)) }
-    ensures too_long { (result ≡ Err EditFault.TooLong) ↔ (32768 < length doc.old.text - (to - from) + length chars.now) }
+    ensures too_long { (result ≡ Err EditFault.TooLong)
+        ↔ (32768 < length doc.old.text - (to - from) + length chars.now) }
 {
     let same = is_range(doc, from, to, chars);
     replace_range(doc, from, to, chars)?;
@@ -56,7 +57,8 @@ pub(crate) fn replace_range(
     ensures ok { OnOk result (doc.new ≡ replaced doc.old from to chars.now) }
     ensures err { OnErr result (doc.new ≡ doc.old) }
     ensures document { IsDocument doc.new }
-    ensures too_long { (result ≡ Err EditFault.TooLong) ↔ (32768 < length doc.old.text - (to - from) + length chars.now) }
+    ensures too_long { (result ≡ Err EditFault.TooLong)
+        ↔ (32768 < length doc.old.text - (to - from) + length chars.now) }
 {
     let kept = doc.len() - (to - from);
     if chars.len() > MAX_LENGTH - kept {
@@ -146,7 +148,8 @@ fn rebuilt(doc: &Doc, from: usize, to: usize, chars: &[char]) -> Result<Doc, NoM
     requires ordered { from ≤ to }
     requires range { to ≤ length doc.now.text }
     requires fits { length doc.now.text - (to - from) + length chars.now ≤ 32768 }
-    ensures { IfOk result (λ new. (new.text ≡ text_replaced doc.now.text from to chars.now) × IsDocument new) }
+    ensures { IfOk result (λ new. (new.text ≡ text_replaced doc.now.text from to chars.now)
+        × IsDocument new) }
 {
     let mut text = doc.part(0, from)?;
     text.extend_from_slice(chars)?;

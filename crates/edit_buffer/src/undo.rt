@@ -31,7 +31,8 @@ impl Buffer {
 
     /// Restores the pair that was kept last and has another text. Returns whether there is one.
     pub fn undo(&mut self) -> Result<bool, NoMemory>
-        ensures answer { IfOk result (λ done. IsTrue done ↔ (0 < length (differing self.old.doc.text self.old.undo))) }
+        ensures answer { IfOk result (λ done. IsTrue done
+            ↔ (0 < length (differing self.old.doc.text self.old.undo))) }
         ensures ok { OnOk result (self.new ≡ undone self.old) }
         ensures err { OnErr result (self.new ≡ self.old) }
         ensures sure { differing self.old.doc.text self.old.undo ≡ [] → IsOk result }
@@ -116,7 +117,8 @@ fn pop_differing(pairs: &mut Snapshots, doc: &Doc)
 /// Gives the first pair the document's cursor.
 fn move_first_cursor(pairs: &mut Snapshots, doc: &Doc)
     requires { IsTrue (first_has_text doc.now.text pairs.old.items) }
-    ensures { pairs.new ≡ buffer (take pairs.old.capacity (with_cursor doc.now.cursor pairs.old.items)) pairs.old.capacity }
+    ensures { pairs.new
+        ≡ buffer (take pairs.old.capacity (with_cursor doc.now.cursor pairs.old.items)) pairs.old.capacity }
 {
     if let Some(mut first) = pairs.pop_front() {
         first.take_cursor(doc);
@@ -128,7 +130,8 @@ fn move_first_cursor(pairs: &mut Snapshots, doc: &Doc)
 /// one, and not even compared where the first pair is known to have it.
 fn keep(pairs: &mut Snapshots, doc: &Doc, is_kept: bool) -> Result<(), NoMemory>
     requires { IsTrue is_kept → IsTrue (first_has_text doc.now.text pairs.old.items) }
-    ensures ok { OnOk result (pairs.new ≡ buffer (take pairs.old.capacity (with_present doc.now pairs.old.items)) pairs.old.capacity) }
+    ensures ok { OnOk result (pairs.new
+        ≡ buffer (take pairs.old.capacity (with_present doc.now pairs.old.items)) pairs.old.capacity) }
     ensures err { OnErr result (pairs.new ≡ pairs.old) }
     ensures sure { IsTrue (first_has_text doc.now.text pairs.old.items) → IsOk result }
 {
