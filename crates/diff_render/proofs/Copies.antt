@@ -1,35 +1,21 @@
--- Drawings that are compared and copied.
+-- Drawings that are compared, and kept row by row.
 use Prim.Native.Nat.{suc}
-use Rattle.std.proofs.Common.{◌≡◌, ℕ, ◌+◌, ◌<◌, ◌≤◌, Bool, true, false, not, List, [], ◌∷◌, ◌++◌, length, take, refl, sym, ap, ◌∙◌, subst, arith, append-nil, slice_set}
+use Rattle.std.proofs.Common.{◌≡◌, ℕ, ◌+◌, ◌<◌, true, false, not, List, [], ◌∷◌, ◌++◌, length, take}
+use Rattle.std.proofs.Common.{sym, ap, ◌∙◌, arith, slice_set}
 use Rattle.std.proofs.Math.Seq.{take-suc, take-length}
 use Rattle.std.proofs.lemmas.List.{set-get_or, take_more, take_more_set}
 use Rattle.cell_grid.specs.declared.cell.Cell.{Cell}
-use Rattle.cell_grid.specs.declared.drawing.Drawing.{Drawing}
 use Rattle.std.proofs.lemmas.Bool.{false≢true}
-use Rattle.cell_grid.specs.Cell.{blank, same_cell}
+use Rattle.cell_grid.specs.Cell.{same_cell}
 use Rattle.cell_grid.specs.Same.{same_cell-Decides}
 use lib.Pointwise.{pointwise, pointwise_decides}
-use Rattle.cell_grid.specs.Row.{blank_row, laid_at, mend_start}
-use Rattle.cell_grid.specs.Grid.{AllRows, IsRow, blank_rows, blitted, laid_over, row_at}
-use Rattle.cell_grid.specs.Size.{Extent}
-use Rattle.diff_render.specs.declared.shown.OnScreen.TheVariants.{Drawn}
-use Rattle.diff_render.specs.Frames.{FitsScreen, HasCursor, screen_after}
-use Rattle.diff_render.specs.ScreenFields.{IsKept}
-use Rattle.diff_render.proofs.RowEnds.{rest_none, same_cells}
+use Rattle.cell_grid.specs.Grid.{row_at}
+use Rattle.diff_render.proofs.RowEnds.{same_cells}
 use Rattle.diff_render.proofs.CellSteps.{not_false, not_true}
 
--- ---- copies
+-- ---- rows that are kept
 
--- whole cells that are laid over a row of their number
-pub row_laid : (row cells : List Cell) → length row ≡ length cells → laid_at row 0 cells ≡ cells
-row_laid row cells long = ap (λ x. cells ++ mend_start x) (rest_none row (0 + length cells) (omega arith)) ∙ append-nil cells
-
--- a row is put in place of another one, or stays where it is the same
-pub row_kept : (old new : List (List Cell)) (cells before : List Cell) (row : ℕ) → before ≡ row_at old row → length before ≡ length cells
-    → new ≡ slice_set old row (laid_at (row_at old row) 0 cells) → new ≡ slice_set old row cells
-row_kept old new cells before row is long laid =
-    laid ∙ ap (λ r. slice_set old row r) (row_laid (row_at old row) cells (ap length (sym is) ∙ long))
-
+-- a row that is the same stays
 pub row_stays : (old : List (List Cell)) (cells : List Cell) (row : ℕ) → row_at old row ≡ cells → old ≡ slice_set old row cells
 row_stays old cells row same = sym (ap (λ r. slice_set old row r) (sym same) ∙ set-get_or old row [])
 

@@ -1,6 +1,8 @@
 -- Frames as their callers see them.
 use Prim.Native.Nat.{zero, suc}
-use Rattle.std.proofs.Common.{◌≡◌, ℕ, ◌+◌, ◌-◌, ◌<◌, ◌≤◌, Bool, true, false, not, ◌&&◌, List, [], ◌∷◌, ◌++◌, length, nat_lt, Option, None, refl, sym, ap, ◌∙◌, subst, arith, append-nil, length-append, length-take-le, ⊎_elim, if◌then◌else◌}
+use Rattle.std.proofs.Common.{◌≡◌, ℕ, ◌+◌, ◌-◌, ◌<◌, ◌≤◌, Bool, true, false, not, ◌&&◌, List, [], ◌∷◌, ◌++◌, length}
+use Rattle.std.proofs.Common.{nat_lt, Option, None, refl, sym, ap, ◌∙◌, subst, arith, append-nil, length-append}
+use Rattle.std.proofs.Common.{length-take-le, ⊎_elim, if◌then◌else◌}
 use Rattle.std.specs.List.{list_all}
 use Rattle.std.proofs.lemmas.Bool.{cases_lt}
 use Rattle.std.proofs.lemmas.Bool.Decides.{nat_tests}
@@ -11,12 +13,13 @@ use Rattle.cell_grid.specs.Cell.{same_cell}
 use Rattle.cell_grid.specs.Row.{blank_row}
 use Rattle.cell_grid.specs.Grid.{row_at}
 use Rattle.cell_grid.specs.Size.{Extent}
-use Rattle.term_model.specs.Controls.{Control, CUU, Ignored, between, controls_from}
+use Rattle.term_model.specs.Controls.{Control, CUU, Ignored}
 use Rattle.term_model.specs.Term.{Term, IsTerminal}
 use Rattle.term_model.specs.Obeying.{acted, forgotten, line_of, obeyed_bytes}
 use Rattle.diff_render.specs.declared.shown.OnScreen.{OnScreen}
 use Rattle.diff_render.specs.declared.shown.OnScreen.TheVariants.{Nothing, Drawn, Resized}
-use Rattle.diff_render.specs.Canvas.{Canvas, canvas_of, top_for, IsBase, On, reads, Spells, IsQuiet, question, asked, touched, Touches}
+use Rattle.diff_render.specs.Canvas.{Canvas, canvas_of, top_for, IsBase, On, reads, Spells, IsQuiet, question, asked}
+use Rattle.diff_render.specs.Canvas.{touched, Touches}
 use Rattle.diff_render.specs.Changes.{cell_at, is_changed, changed_rows}
 use Rattle.diff_render.specs.Frames.{put, Agree, Begins, rows_before, AsksWhere, has_to_ask, IsOnScreen, IsFrame}
 use Rattle.diff_render.specs.Opening.{climb, opening, asking, opening_of}

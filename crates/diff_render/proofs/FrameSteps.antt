@@ -1,5 +1,6 @@
 -- Where the bytes of a frame lead to in the end.
-use Rattle.std.proofs.Common.{◌≡◌, ℕ, ◌+◌, ◌-◌, ◌<◌, ◌≤◌, true, false, List, [], ◌∷◌, ◌++◌, length, take, nat_lt, refl, sym, ap, ◌∙◌, arith, append_assoc, append-nil, ⊎_elim}
+use Rattle.std.proofs.Common.{◌≡◌, ℕ, ◌+◌, ◌-◌, ◌<◌, ◌≤◌, true, false, List, [], ◌∷◌, ◌++◌, length, take, nat_lt}
+use Rattle.std.proofs.Common.{refl, sym, ap, ◌∙◌, arith, append_assoc, append-nil, ⊎_elim}
 use Rattle.std.proofs.lemmas.Bool.{cases_lt}
 use Rattle.std.proofs.lemmas.Bool.Decides.{nat_tests}
 use Rattle.std.proofs.lemmas.List.{replicate-append-replicate}
@@ -9,7 +10,7 @@ use Rattle.cell_grid.specs.declared.drawing.Drawing.{Drawing}
 use Rattle.cell_grid.specs.Attrs.{plain}
 use Rattle.cell_grid.specs.Row.{blank_row}
 use Rattle.cell_grid.specs.Grid.{blank_rows}
-use Rattle.term_model.specs.Controls.{Control, CR, LF, DECAWM, BracketedPaste, between, controls_from}
+use Rattle.term_model.specs.Controls.{Control, CR, LF, DECAWM, BracketedPaste}
 use Rattle.term_model.specs.Term.{Term}
 use Rattle.term_model.specs.Obeying.{acted, fed_by, returned, forgotten}
 use Rattle.diff_render.specs.Canvas.{canvas_of, canvas, top_for, IsBase, On, reads, Spells, IsQuiet}

@@ -1,5 +1,6 @@
 -- What a writer's bytes do that made one drawing another.
-use Rattle.std.proofs.Common.{◌≡◌, ℕ, ◌+◌, ◌-◌, ◌<◌, ◌≤◌, Bool, true, false, List, [], ◌++◌, length, max, refl, sym, ap, ◌∙◌, subst, arith, length-append}
+use Rattle.std.proofs.Common.{◌≡◌, ℕ, ◌+◌, ◌-◌, ◌<◌, ◌≤◌, Bool, true, false, List, [], ◌++◌, length, max, refl, sym}
+use Rattle.std.proofs.Common.{ap, ◌∙◌, subst, arith, length-append}
 use Rattle.cell_grid.specs.declared.cell.Cell.{Cell}
 use Rattle.cell_grid.specs.declared.drawing.Drawing.{Drawing}
 use Rattle.cell_grid.specs.Attrs.{plain}
@@ -14,7 +15,8 @@ use Rattle.diff_render.specs.Writer.{written, canvas_at, Moves, Stood}
 use Rattle.diff_render.proofs.Reading.{spells_then, quiet_then}
 use Rattle.diff_render.proofs.Drawing.{acted-append, touches_then, draws_none, draws_same}
 use Rattle.diff_render.proofs.Made.{made_then, made_closing}
-use Rattle.diff_render.proofs.FrameSteps.{spells_reads, trimmed, open_agrees, closing_controls, spells_closing, quiet_closing, closes}
+use Rattle.diff_render.proofs.FrameSteps.{spells_reads, trimmed, open_agrees, closing_controls, spells_closing}
+use Rattle.diff_render.proofs.FrameSteps.{quiet_closing, closes}
 
 -- a writer that has written nothing stands where it began
 begun : (ok : ℕ → ℕ → Bool) (w : Writer) (old : List (List Cell)) → written w ≡ [] → w.height ≡ length old → Stood ok w (canvas_at w old) old
@@ -22,11 +24,6 @@ begun ok w old nothing count = record {
   drawn = subst (λ b. Draws w.rows w.cols ok b (canvas_at w old) (canvas_at w old)) (sym nothing) (draws_none w.rows w.cols ok (canvas_at w old));
   count = sym count;
 }
-
--- where a writer stands at last, for all places that may pass
-Reached : (rows cols : ℕ) (old new : List (List Cell)) (row col height : ℕ) (to_row to_col : ℕ) (bytes : List ℕ) → Type 0
-Reached rows cols old new row col height to_row to_col bytes =
-    (ok : ℕ → ℕ → Bool) → MayTouchRows ok old new → Draws rows cols ok bytes (canvas_of old row col plain) (canvas_of (padded height cols new) to_row to_col plain)
 
 reached : (w v u : Writer) (rows cols : ℕ) (old new : List (List Cell)) (to_row to_col cost : ℕ) → written w ≡ [] → w.pen ≡ plain → w.rows ≡ rows → w.cols ≡ cols
     → w.height ≡ length old → Redrawn w v old new → Moves v u to_row to_col plain cost

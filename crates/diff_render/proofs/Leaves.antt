@@ -1,6 +1,8 @@
 -- What each step of the writer leads to.
 use Prim.Native.Nat.{suc}
-use Rattle.std.proofs.Common.{◌≡◌, ℕ, ◌+◌, ◌-◌, ◌<◌, ◌≤◌, ◌⊎◌, Bool, true, false, List, [], ◌∷◌, ◌++◌, length, nat_lt, min, map, Option, refl, sym, ap, ◌∙◌, subst, arith, length-append, ⊎_elim, encode_utf8_all, unwrap_or, if◌then◌else◌}
+use Rattle.std.proofs.Common.{◌≡◌, ℕ, ◌+◌, ◌-◌, ◌<◌, ◌≤◌, ◌⊎◌, Bool, true, false, List, [], ◌∷◌, ◌++◌, length, nat_lt}
+use Rattle.std.proofs.Common.{min, map, Option, refl, sym, ap, ◌∙◌, subst, arith, length-append, ⊎_elim}
+use Rattle.std.proofs.Common.{encode_utf8_all, unwrap_or, if◌then◌else◌}
 use Rattle.std.specs.List.{list_all}
 use Rattle.std.specs.Fmt.{decimal}
 use Rattle.std.proofs.lemmas.Fmt.{length-decimal-le}
@@ -22,9 +24,12 @@ use Rattle.diff_render.specs.declared.writer.Writer.{Writer}
 use Rattle.diff_render.specs.Canvas.{Canvas, canvas_of, Draws, Does, Spells, IsQuiet}
 use Rattle.cell_grid.specs.Drawable.{AllJoining, IsCharacter, IsPen}
 use Rattle.diff_render.specs.Spelling.{arrow, numbers_of, joined, listed_by, spelled_pen, IsBytePen}
-use Rattle.diff_render.specs.Pieces.{Piece, Return, Feed, Up, Right, Left, EraseLine, ErasePage, Pen, Added, spelled, IsPiece, IsMade}
+use Rattle.diff_render.specs.Pieces.{Piece, Return, Feed, Up, Right, Left, EraseLine, ErasePage, Pen, Added, spelled}
+use Rattle.diff_render.specs.Pieces.{IsPiece, IsMade}
 use Rattle.diff_render.specs.Writer.{written, canvas_at, IsPlaced, Moves, Grows, Writes, Erases, ErasesBelow, Stood}
-use Rattle.diff_render.proofs.Reading.{weaker, spells_low, spells_sequence, parameter_numeric, decimal_numeric, stepped_decimal, quiet_sequence, quiet_others, listed_by_numeric, numbers_anew, numbers_added, rendition_some}
+use Rattle.diff_render.proofs.Reading.{weaker, spells_low, spells_sequence, parameter_numeric, decimal_numeric}
+use Rattle.diff_render.proofs.Reading.{stepped_decimal, quiet_sequence, quiet_others, listed_by_numeric, numbers_anew}
+use Rattle.diff_render.proofs.Reading.{numbers_added, rendition_some}
 use Rattle.diff_render.proofs.Made.{made_of, made_text}
 use Rattle.diff_render.proofs.PenNumbers.{small_numbers, pen_length, styled_numbers, styled_added, some_numbers}
 use Rattle.diff_render.proofs.Texts.{AllPrinted, spells_text, quiet_text, length_text, printed_width}

@@ -1,13 +1,14 @@
 -- The end of a drawing, where the new one is blank.
 use Prim.Native.Nat.{zero, suc}
-use Rattle.std.proofs.Common.{◌≡◌, ℕ, ◌+◌, ◌-◌, ◌<◌, ◌≤◌, ◌⊎◌, true, false, not, List, [], ◌∷◌, ◌++◌, length, take, drop, min, nat_lt, inl, inr, refl, sym, ap, ◌∙◌, subst, arith, append-nil, length-drop, length-take-le, take-append-drop, ⊎_elim, if◌then◌else◌}
+use Rattle.std.proofs.Common.{◌≡◌, ℕ, ◌+◌, ◌-◌, ◌<◌, ◌≤◌, ◌⊎◌, true, false, not, List, [], ◌∷◌, ◌++◌, length, take}
+use Rattle.std.proofs.Common.{drop, min, nat_lt, inl, inr, refl, sym, ap, ◌∙◌, subst, arith, append-nil, length-drop}
+use Rattle.std.proofs.Common.{length-take-le, take-append-drop, ⊎_elim, if◌then◌else◌}
 use Rattle.std.proofs.lemmas.Bool.{cases_lt}
 use Rattle.std.proofs.lemmas.Bool.Decides.{nat_tests}
 use Rattle.std.proofs.lemmas.List.{length-replicate, length-take, get_or-drop, get_or-take}
 use Rattle.cell_grid.specs.declared.cell.Cell.{Cell}
-use Rattle.cell_grid.specs.Attrs.{plain}
 use Rattle.cell_grid.specs.Cell.{blank, same_cell}
-use Rattle.cell_grid.specs.Row.{blank_row, laid_at, mend_start}
+use Rattle.cell_grid.specs.Row.{blank_row}
 use Rattle.cell_grid.specs.Grid.{AllRows, blank_rows, columns, row_at}
 use Rattle.diff_render.specs.declared.writer.Writer.{Writer}
 use Rattle.diff_render.specs.Changes.{changed_in, changed_rows}
@@ -16,7 +17,7 @@ use Rattle.diff_render.specs.Writer.{Stood}
 use Rattle.diff_render.specs.Redrawn.{padded, line_at, IsBlankBelow, IsDrawnRow, IsErasedBelow, RowsSoFar}
 use Rattle.diff_render.proofs.CellSteps.{not_false, not_true}
 use Rattle.diff_render.proofs.Moves.{same_then}
-use Rattle.diff_render.proofs.RowEnds.{rest_none, same_cells, differ_somewhere}
+use Rattle.diff_render.proofs.RowEnds.{same_cells, differ_somewhere}
 use Rattle.diff_render.proofs.LineSteps.{length_padded, padded_at, line_old, may_touch_line, all_taken, all_dropped}
 use lib.Pointwise.{pointwise}
 

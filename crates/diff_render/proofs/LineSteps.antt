@@ -1,6 +1,8 @@
 -- One line of a drawing after another.
 use Prim.Native.Nat.{zero, suc}
-use Rattle.std.proofs.Common.{◌≡◌, ℕ, ◌+◌, ◌-◌, ◌<◌, ◌≤◌, Bool, true, false, not, List, [], ◌∷◌, ◌++◌, length, take, drop, nat_lt, max, Some, refl, sym, ap, ◌∙◌, subst, arith, append_assoc, append-nil, length-append, length-take-le, drop-cons, ⊎_elim, if◌then◌else◌}
+use Rattle.std.proofs.Common.{◌≡◌, ℕ, ◌+◌, ◌-◌, ◌<◌, ◌≤◌, Bool, true, false, not, List, [], ◌∷◌, ◌++◌, length, take}
+use Rattle.std.proofs.Common.{drop, nat_lt, Some, refl, sym, ap, ◌∙◌, subst, arith, append_assoc, append-nil}
+use Rattle.std.proofs.Common.{length-append, length-take-le, drop-cons, ⊎_elim, if◌then◌else◌}
 use Rattle.std.proofs.Math.Seq.{take-suc, get_or-append_right}
 use Rattle.std.proofs.lemmas.Bool.{cases_lt}
 use Rattle.std.proofs.lemmas.Bool.Decides.{nat_tests}
@@ -11,7 +13,7 @@ use Rattle.cell_grid.specs.Row.{IsWhole, blank_row}
 use Rattle.cell_grid.specs.Grid.{IsRow, blank_rows, row_at}
 use Rattle.diff_render.specs.declared.writer.Writer.{Writer}
 use Rattle.diff_render.specs.Changes.{cell_at, changed_in, changed_rows}
-use Rattle.diff_render.specs.Writer.{IsPlaced, Moves, Grows, Stood}
+use Rattle.diff_render.specs.Writer.{IsPlaced, Grows, Stood}
 use Rattle.unicode_width.specs.Width.{char_width}
 use Rattle.cell_grid.specs.Drawable.{AllDrawable, AllRowsDrawable}
 use Rattle.diff_render.specs.Redrawing.{MayTouch, Updates}

@@ -1,10 +1,12 @@
 -- Bytes that are made of pieces.
-use Rattle.std.proofs.Common.{◌≡◌, ℕ, ◌≤◌, ◌<◌, Bool, true, false, List, [], ◌∷◌, ◌++◌, nat_lt, refl, sym, ap, ◌∙◌, arith, append_assoc, append-nil, ⊎_elim, encode_utf8, encode_utf8_all, if◌then◌else◌}
+use Rattle.std.proofs.Common.{◌≡◌, ℕ, ◌≤◌, ◌<◌, Bool, true, false, List, [], ◌∷◌, ◌++◌, nat_lt, refl, sym, ap, ◌∙◌}
+use Rattle.std.proofs.Common.{arith, append_assoc, append-nil, ⊎_elim, encode_utf8, encode_utf8_all}
 use Rattle.std.proofs.lemmas.Bool.{and_parts, cases_lt}
 use Rattle.std.proofs.lemmas.Bool.Decides.{nat_tests}
 use lib.Utf8.{scalar, scalars}
 use Rattle.diff_render.specs.Opening.{climb, opening, asking}
-use Rattle.diff_render.specs.Pieces.{Piece, Character, Return, Feed, Up, ErasePage, Pen, Wraps, Pastes, Visible, Question, spelled, spelling, IsPiece, ArePieces, IsMade}
+use Rattle.diff_render.specs.Pieces.{Piece, Character, Return, Feed, Up, ErasePage, Pen, Wraps, Pastes, Visible}
+use Rattle.diff_render.specs.Pieces.{Question, spelled, spelling, IsPiece, ArePieces, IsMade}
 use Rattle.diff_render.specs.Turning.{closing}
 use Rattle.diff_render.proofs.Texts.{AllPrinted}
 use Rattle.cell_grid.specs.Attrs.{plain}

@@ -1,5 +1,7 @@
 -- What the sequence of a pen reads as, and how long it is.
-use Rattle.std.proofs.Common.{◌≡◌, ℕ, ◌+◌, ◌-◌, ◌<◌, ◌≤◌, Bool, true, false, List, [], ◌∷◌, ◌++◌, length, ◌||◌, nat_eq, nat_lt, nat_le, Option, Some, None, refl, ap, ◌∙◌, arith, append_assoc, append-nil, length-append, ⊎_elim, if◌then◌else◌}
+use Rattle.std.proofs.Common.{◌≡◌, ℕ, ◌+◌, ◌-◌, ◌<◌, ◌≤◌, Bool, true, false, List, [], ◌∷◌, ◌++◌, length, ◌||◌}
+use Rattle.std.proofs.Common.{nat_eq, nat_lt, nat_le, Option, Some, None, refl, ap, ◌∙◌, arith, append_assoc}
+use Rattle.std.proofs.Common.{append-nil, length-append, ⊎_elim, if◌then◌else◌}
 use Rattle.std.specs.Int.{is_in_range}
 use Rattle.std.specs.Fmt.{decimal}
 use Rattle.std.proofs.lemmas.Fmt.{length-decimal-le}
@@ -11,7 +13,8 @@ use Rattle.cell_grid.specs.declared.attrs.Colour.TheVariants.{Ansi, Rgb}
 use Rattle.cell_grid.specs.Attrs.{plain}
 use Rattle.term_model.specs.Rendition.{styled, styled_past, styled_by, styled_once, direct_colour, taken_by}
 use Rattle.cell_grid.specs.Drawable.{IsColour, IsPen}
-use Rattle.diff_render.specs.Spelling.{flagged, coloured, listed, listed_by, numbers_of, joined, colour_over, spelled_pen, IsByteColour, IsBytePen}
+use Rattle.diff_render.specs.Spelling.{flagged, coloured, listed, listed_by, numbers_of, joined, colour_over}
+use Rattle.diff_render.specs.Spelling.{spelled_pen, IsByteColour, IsBytePen}
 use Rattle.diff_render.proofs.Reading.{AllSmall, listed-append}
 
 -- ---- what the numbers do
@@ -68,9 +71,6 @@ high_once p n h =
 
 in_range : (low high n : ℕ) → low ≤ n → n ≤ high → is_in_range low high n ≡ true
 in_range low high n a b = and_from (nat_le low n) (nat_le n high) (grind (arith, nat_tests)) (grind (arith, nat_tests))
-
-below_range : (low high n : ℕ) → n < low → is_in_range low high n ≡ false
-below_range low high n a = grind (arith, nat_tests)
 
 above_range : (low high n : ℕ) → high < n → is_in_range low high n ≡ false
 above_range low high n a = grind (arith, nat_tests)

@@ -1,5 +1,8 @@
 -- What printing a cell and erasing do to a canvas.
-use Rattle.std.proofs.Common.{◌≡◌, ℕ, ◌+◌, ◌-◌, ◌<◌, ◌≤◌, Bool, true, false, ◌&&◌, List, [], ◌∷◌, ◌++◌, length, take, drop, replicate, nat_eq, nat_lt, nat_le, min, map, Option, Some, None, refl, sym, ap, ◌∙◌, subst, arith, append_assoc, append-nil, length-append, length-take-le, ⊎_elim, ◌⊎◌, inl, inr, slice_set, if◌then◌else◌}
+use Rattle.std.proofs.Common.{◌≡◌, ℕ, ◌+◌, ◌-◌, ◌<◌, ◌≤◌, Bool, true, false, ◌&&◌, List, [], ◌∷◌, ◌++◌, length, take}
+use Rattle.std.proofs.Common.{drop, replicate, nat_eq, nat_lt, nat_le, min, map, Option, Some, None, refl, sym, ap}
+use Rattle.std.proofs.Common.{◌∙◌, subst, arith, append_assoc, append-nil, length-append, length-take-le, ⊎_elim, ◌⊎◌}
+use Rattle.std.proofs.Common.{inl, inr, slice_set, if◌then◌else◌}
 use Rattle.std.specs.List.{list_all, slice_get}
 use Rattle.std.proofs.Math.Seq.{get_or-append_seam, set-append_seam, take-append_seam, drop-append_seam}
 use Rattle.std.proofs.lemmas.Bool.{and_right}
@@ -14,9 +17,11 @@ use Rattle.cell_grid.specs.Row.{blank_row, put_at, laid_at, mended, mend_end, me
 use Rattle.cell_grid.specs.Grid.{blank_rows, put_in, row_at}
 use Rattle.cell_grid.proofs.RowLemmas.{length-mend_end}
 use Rattle.term_model.specs.Controls.{Print, EL, ED}
-use Rattle.term_model.specs.Obeying.{act, acted, wrapped, wrapped_by, placed, placed_by, printed_by, width_of, joined_row, joined_cell, line_of}
+use Rattle.term_model.specs.Obeying.{act, acted, wrapped, wrapped_by, placed, placed_by, printed_by, width_of}
+use Rattle.term_model.specs.Obeying.{joined_row, joined_cell, line_of}
 use Rattle.term_model.specs.Term.{Term}
-use Rattle.diff_render.specs.Canvas.{canvas_of, top_for, canvas, On, IsBase, lead_place, placed_at, printed_at, touched, Touches, Does}
+use Rattle.diff_render.specs.Canvas.{canvas_of, top_for, canvas, On, IsBase, lead_place, placed_at, printed_at}
+use Rattle.diff_render.specs.Canvas.{touched, Touches, Does}
 use Rattle.diff_render.proofs.Steps.{one, top_before}
 
 -- ---- a line among lines

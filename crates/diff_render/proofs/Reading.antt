@@ -1,5 +1,7 @@
 -- What the pieces of a frame read as, whatever comes behind them, and that they hold no question.
-use Rattle.std.proofs.Common.{◌≡◌, ℕ, ◌+◌, ◌-◌, ◌*◌, ◌/◌, ◌%◌, ◌^◌, ◌<◌, ◌≤◌, Bool, true, false, not, List, [], ◌∷◌, ◌++◌, length, drop, slice_index, nat_eq, nat_lt, max, refl, sym, ap, ◌∙◌, arith, append_assoc, append-nil, if◌then◌else◌}
+use Rattle.std.proofs.Common.{◌≡◌, ℕ, ◌+◌, ◌-◌, ◌*◌, ◌/◌, ◌%◌, ◌^◌, ◌<◌, ◌≤◌, Bool, true, false, not, List, [], ◌∷◌}
+use Rattle.std.proofs.Common.{◌++◌, nat_eq, nat_lt, max, refl, sym, ap, ◌∙◌, arith}
+use Rattle.std.proofs.Common.{append_assoc, append-nil, if◌then◌else◌}
 use Rattle.term_model.specs.Obeying.{chars_of}
 use Rattle.std.specs.List.{list_all}
 use Rattle.std.specs.Fmt.{decimal}
@@ -10,7 +12,8 @@ use Rattle.std.proofs.lemmas.Fmt.{decimal_by_steps}
 use Rattle.term_model.proofs.CharLemmas.{chars_of-ascii}
 use Rattle.term_model.specs.Parameters.{is_digit, is_numeric, capped, numbers_from, numbers}
 use Rattle.characters.specs.ControlCharacters.{is_parameter, is_intermediate, is_final}
-use Rattle.term_model.specs.Controls.{Control, between, parameters, controls_from, function_of, stepped, only, rendition, SGR}
+use Rattle.term_model.specs.Controls.{Control, between, parameters, controls_from, function_of, stepped, only}
+use Rattle.term_model.specs.Controls.{rendition, SGR}
 use Rattle.diff_render.specs.Canvas.{reads, Spells, starts, one_more, asked, IsQuiet}
 use Rattle.diff_render.specs.Spelling.{listed, listed_by, still_first}
 

@@ -1,5 +1,6 @@
 -- The text of a cell, as it is written and as it reads.
-use Rattle.std.proofs.Common.{◌≡◌, ℕ, suc, ◌+◌, ◌<◌, true, false, List, [], ◌∷◌, ◌++◌, length, drop, get_or, refl, sym, ap, ◌∙◌, arith, append_assoc, drop-cons, encode_utf8, encode_utf8_all}
+use Rattle.std.proofs.Common.{◌≡◌, ℕ, suc, ◌+◌, ◌<◌, true, false, List, [], ◌∷◌, ◌++◌, length, drop, get_or, refl}
+use Rattle.std.proofs.Common.{sym, ap, ◌∙◌, arith, append_assoc, drop-cons, encode_utf8, encode_utf8_all}
 use Rattle.term_model.specs.Obeying.{chars_of}
 use Rattle.std.proofs.Common.{◌*◌, ◌/◌, ◌%◌, ◌≤◌, map, nat_eq, nat_lt, nat_le, Some, None, ⊎_elim, if◌then◌else◌}
 use Rattle.std.specs.List.{list_all}

@@ -1,6 +1,7 @@
 -- What the bytes of a frame do to a terminal, told by its lines from the base line on. Whatever stands before the base line, and
 -- wherever the window is, the same bytes lead from one canvas to the next.
-use Rattle.std.specs.Prelude.{◌≡◌, ℕ, zero, suc, ◌+◌, ◌-◌, ◌<◌, ◌≤◌, Bool, true, false, ◌&&◌, List, [], ◌∷◌, ◌++◌, Option, length, take, max, nat_eq, nat_le}
+use Rattle.std.specs.Prelude.{◌≡◌, ℕ, zero, suc, ◌+◌, ◌-◌, ◌<◌, ◌≤◌, Bool, true, false, ◌&&◌, List, [], ◌∷◌, ◌++◌}
+use Rattle.std.specs.Prelude.{Option, length, take, max, nat_eq, nat_le}
 use Rattle.std.specs.List.{list_all}
 use Rattle.cell_grid.specs.declared.cell.Cell.{Cell}
 use Rattle.cell_grid.specs.declared.attrs.Attrs.{Attrs}

@@ -1,5 +1,6 @@
 -- What a frame does: the terminal that obeyed it shows the new drawing, whatever it had before the base line.
-use Rattle.std.specs.Prelude.{◌≡◌, ℕ, ◌+◌, ◌-◌, ◌*◌, ◌<◌, ◌≤◌, Bool, true, false, not, ◌&&◌, List, [], ◌++◌, Option, Some, None, length, take, max}
+use Rattle.std.specs.Prelude.{◌≡◌, ℕ, ◌+◌, ◌-◌, ◌*◌, ◌<◌, ◌≤◌, Bool, true, false, not, ◌&&◌, List, [], ◌++◌, Option}
+use Rattle.std.specs.Prelude.{Some, None, length, take, max}
 use Rattle.cell_grid.specs.declared.cell.Cell.{Cell}
 use Rattle.cell_grid.specs.declared.drawing.Drawing.{Drawing}
 use Rattle.cell_grid.specs.Attrs.{plain}

@@ -1,5 +1,6 @@
 -- What a contract sees of a drawing's lines that are redrawn.
-use Rattle.std.specs.Prelude.{◌≡◌, ℕ, ◌+◌, ◌-◌, ◌*◌, ◌≤◌, Bool, true, List, ◌++◌, length, take, drop, max, nat_lt, if◌then◌else◌, ◌<◌, false}
+use Rattle.std.specs.Prelude.{◌≡◌, ℕ, ◌+◌, ◌-◌, ◌*◌, ◌≤◌, Bool, true, List, ◌++◌, length, take, drop, max, nat_lt}
+use Rattle.std.specs.Prelude.{if◌then◌else◌, ◌<◌, false}
 use Rattle.cell_grid.specs.declared.cell.Cell.{Cell}
 use Rattle.cell_grid.specs.Row.{blank_row}
 use Rattle.cell_grid.specs.Cell.{same_cell}

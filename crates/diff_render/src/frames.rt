@@ -1,5 +1,6 @@
 //! The bytes of a frame.
-ghost use Rattle.std.specs.Prelude.{◌≡◌, ◌++◌, ◌+◌, ◌-◌, ◌≤◌, ◌<◌, ◌↔◌, [], ◌&&◌, not, true, false, IsTrue, IfOk, OnOk, OnErr, length};
+ghost use Rattle.std.specs.Prelude.{◌≡◌, ◌++◌, ◌+◌, ◌-◌, ◌≤◌, ◌<◌, ◌↔◌, [], ◌&&◌, not, true, false, IsTrue, IfOk};
+ghost use Rattle.std.specs.Prelude.{OnOk, OnErr, length};
 ghost use Rattle.std.specs.String.{string_bytes};
 ghost use Rattle.cell_grid.specs.Attrs.{plain};
 ghost use Rattle.cell_grid.specs.Grid.{columns};
@@ -19,7 +20,7 @@ use cell_grid::{Attrs, Drawing, Grid, Size};
 use std::alloc::{AllocError, Global};
 use text_doc::Bytes;
 
-/// The bytes that a frame begins with where the cursor is so many rows below the base line.
+/// Returns the bytes that a frame begins with where the cursor is so many rows below the base line.
 fn opening(alloc: Global, up: u32, asks: bool) -> Result<String, AllocError>
     ensures { IfOk result (λ bytes. string_bytes bytes ≡ opening_of up asks) }
 {
@@ -60,7 +61,7 @@ fn close(w: &mut Writer, rows: u32) -> Result<(), AllocError>
     Ok(())
 }
 
-/// The bytes that make the rows of a grid, with the cursor at a place and a plain pen, a drawing.
+/// Returns the bytes that make the rows of a grid, with the cursor at a place and a plain pen, a drawing.
 fn turned(
     alloc: Global,
     old: &Grid,
@@ -98,7 +99,7 @@ fn turned(
     Ok(w.out)
 }
 
-/// The bytes that begin a drawing anew, where the cursor is so many rows below the base line.
+/// Returns the bytes that begin a drawing anew, where the cursor is so many rows below the base line.
 fn anew(
     alloc: Global,
     up: u32,
@@ -119,7 +120,7 @@ fn anew(
     Ok(out)
 }
 
-/// Whether two grids have the same cells.
+/// Tells whether two grids have the same cells.
 fn is_same_grid(a: &Grid, b: &Grid) -> bool
     ensures { IsTrue result ↔ (a.now ≡ b.now) }
 {
@@ -134,21 +135,21 @@ fn is_same_grid(a: &Grid, b: &Grid) -> bool
     true
 }
 
-/// Whether two drawings are the same.
+/// Tells whether two drawings are the same.
 fn is_same(a: &Drawing, b: &Drawing) -> bool
     ensures { IsTrue result ↔ (a.now ≡ b.now) }
 {
     a.row == b.row && a.col == b.col && is_same_grid(&a.grid, &b.grid)
 }
 
-/// Whether a frame that begins a drawing anew asks for the cursor's place.
+/// Tells whether a frame that begins a drawing anew asks for the cursor's place.
 fn asks(done: bool, ask: bool) -> bool
     ensures { result ≡ (ask && not done) }
 {
     ask && !done
 }
 
-/// The bytes of a frame.
+/// Returns the bytes of a frame.
 fn bytes_of(
     alloc: Global,
     screen: &OnScreen,
@@ -185,10 +186,10 @@ fn bytes_of(
     }
 }
 
-/// The bytes that turn what is on the screen into a drawing, which is on the screen then. With `done`
-/// the drawing is the last one of its prompt: the cursor goes behind it, the terminal's modes are those
-/// outside a prompt, and nothing is on the screen then. With `ask` a drawing that is begun anew asks the
-/// terminal for its cursor's place, by DEVICE STATUS REPORT (ECMA-48, 8.3.35).
+/// Returns the bytes that turn what is on the screen into a drawing, which is on the screen then. With
+/// `done` the drawing is the last one of its prompt: the cursor goes behind it, the terminal's modes are
+/// those outside a prompt, and nothing is on the screen then. With `ask` a drawing that is begun anew asks
+/// the terminal for its cursor's place, by DEVICE STATUS REPORT (ECMA-48, 8.3.35).
 ///
 /// Where the same drawing is on the screen, there are no bytes. Where no memory is found, what is on the
 /// screen stays as it is.

@@ -4,7 +4,8 @@ ghost use Rattle.cell_grid.specs.Attrs.{plain};
 ghost use Rattle.cell_grid.specs.Row.{blank_row};
 ghost use Rattle.cell_grid.specs.Grid.{IsRow, columns};
 ghost use Rattle.cell_grid.specs.Drawable.{AllRowsDrawable};
-ghost use Rattle.diff_render.specs.Redrawn.{line_at, IsBlankBelow, IsDrawnRow, IsErasedBelow, GrowsTo, RowsSoFar, Redrawn};
+ghost use Rattle.diff_render.specs.Redrawn.{line_at, IsBlankBelow, IsDrawnRow, IsErasedBelow, GrowsTo, RowsSoFar};
+ghost use Rattle.diff_render.specs.Redrawn.{Redrawn};
 ghost use Rattle.diff_render.specs.Writer.{IsPlaced};
 
 use crate::rows::{erase_from, erased_from, update_line};
@@ -29,7 +30,7 @@ impl Writer {
     }
 }
 
-/// A row of a grid, or blanks behind the last one.
+/// Returns a row of a grid, or blanks behind the last one.
 fn line_of<'a>(grid: &'a Grid, blanks: &'a [Cell], row: u32) -> &'a [Cell]
     requires { blanks.now ≡ blank_row (columns grid.now) }
     ensures row { IsRow (columns grid.now) result.now }
@@ -42,7 +43,7 @@ fn line_of<'a>(grid: &'a Grid, blanks: &'a [Cell], row: u32) -> &'a [Cell]
     }
 }
 
-/// The row from which on a grid is blank.
+/// Returns the row from which on a grid is blank.
 fn blank_below(grid: &Grid, blanks: &[Cell]) -> u32
     requires { blanks.now ≡ blank_row (columns grid.now) }
     ensures within { result ≤ length grid.now }

@@ -9,7 +9,7 @@ use crate::writer::Writer;
 use cell_grid::Attrs;
 use std::alloc::AllocError;
 
-/// How many bytes a cursor control of so many places takes.
+/// Counts the bytes that a cursor control of so many places takes.
 fn arrow_len(n: u32) -> u32
     ensures { result ≤ 6 }
 {
@@ -21,7 +21,7 @@ fn arrow_len(n: u32) -> u32
     }
 }
 
-/// Whether going back takes fewer bytes from the first column on.
+/// Tells whether going back takes fewer bytes from the first column on.
 fn is_nearer_from_home(col: u32, to: u32) -> bool
     requires { to ≤ col }
 {

@@ -11,7 +11,7 @@ use crate::writer::Writer;
 use cell_grid::Cell;
 use std::alloc::AllocError;
 
-/// Whether two cells are different.
+/// Tells whether two cells are different.
 fn differ(a: &Cell, b: &Cell) -> bool
     ensures { result ≡ not (same_cell a.now b.now) }
 {
@@ -50,7 +50,7 @@ fn draw_cells(w: &mut Writer, old: &[Cell], new: &[Cell], end: usize) -> Result<
     Ok(())
 }
 
-/// The column from which on a row is blank.
+/// Returns the column from which on a row is blank.
 fn blank_from(cells: &[Cell]) -> usize
     ensures within { result ≤ length cells.now }
     ensures blank { IsBlankFrom result cells.now }
@@ -65,8 +65,8 @@ fn blank_from(cells: &[Cell]) -> usize
     end
 }
 
-/// The column from which on a row becomes blank where it was not: the first one behind the new cells at
-/// which the old row differs, or the row's end.
+/// Returns the column from which on a row becomes blank where it was not: the first one behind the new
+/// cells at which the old row differs, or the row's end.
 pub(crate) fn erased_from(old: &[Cell], new: &[Cell]) -> usize
     requires { length old.now ≡ length new.now }
     ensures within { result ≤ length new.now }

@@ -55,8 +55,8 @@ impl Shown {
         }
     }
 
-    /// Forgets the size of what is shown, since the screen has another one: what is
-    /// on it is drawn anew by the next frame, from the line on that the cursor's row leads up to.
+    /// Forgets the size of what is shown, since the screen has another one: what is on it is drawn anew
+    /// by the next frame, from the line on that the cursor's row leads up to.
     pub fn forget_size(&mut self)
         ensures { self.new ≡ forgetting self.old }
     {

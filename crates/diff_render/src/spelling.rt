@@ -3,7 +3,8 @@ ghost use Rattle.std.specs.Prelude.{◌≡◌, ◌++◌, ◌∷◌, ◌≤◌, [
 ghost use lib.Utf8.{scalar, scalars};
 ghost use Rattle.std.specs.Fmt.{decimal};
 ghost use Rattle.std.specs.String.{string_bytes};
-ghost use Rattle.diff_render.specs.Spelling.{arrow, flagged, coloured, listed_by, spelled_pen, still_first, IsByteColour, IsBytePen};
+ghost use Rattle.diff_render.specs.Spelling.{arrow, flagged, coloured, listed_by, spelled_pen, still_first};
+ghost use Rattle.diff_render.specs.Spelling.{IsByteColour, IsBytePen};
 
 use cell_grid::{Attrs, Colour};
 use std::alloc::AllocError;

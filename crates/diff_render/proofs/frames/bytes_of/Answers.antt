@@ -2,7 +2,8 @@ use Rattle.diff_render.proofs.FrameEnds.{frame_of_nothing, frame_of_resized, fra
 use Rattle.std.proofs.Common.{◌∙◌, sym}
 use Rattle.std.proofs.lemmas.Bool.{false≢true}
 use Rattle.diff_render.proofs.frames.bytes_of.Goals as goal
-use Rattle.diff_render.proofs.frames.bytes_of.Goals.{else-not-done-via-then-not-done+else-is_same, else-not-done-via-else-not-done}
+use Rattle.diff_render.proofs.frames.bytes_of.Goals.{else-not-done-via-then-not-done+else-is_same}
+use Rattle.diff_render.proofs.frames.bytes_of.Goals.{else-not-done-via-else-not-done}
 
 pub returns-then-is_same : goal.returns-then-is_same
 returns-then-is_same c =

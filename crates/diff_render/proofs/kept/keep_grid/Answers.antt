@@ -1,6 +1,6 @@
-use Rattle.std.proofs.Common.{◌∙◌, ◌<◌, ap, arith, length}
+use Rattle.std.proofs.Common.{◌∙◌, ap, arith, length}
 use Rattle.std.proofs.lemmas.List.{length-set}
-use Rattle.diff_render.proofs.Copies.{rows_kept, same_all}
+use Rattle.diff_render.proofs.Copies.{rows_kept}
 use Rattle.diff_render.proofs.kept.keep_grid.Goals as goal
 
 pub loop-row-preserved : goal.loop-row-preserved

@@ -1,4 +1,4 @@
-use Rattle.std.proofs.Common.{◌-◌, arith, subst, sym, take}
+use Rattle.std.proofs.Common.{◌-◌, arith, subst, take}
 use Rattle.diff_render.specs.Redrawn.{GrowsTo, RowsSoFar}
 use Rattle.diff_render.proofs.Growing.{redrawn_there, redrawn_higher}
 use Rattle.diff_render.proofs.lines.redraw.Goals as goal

@@ -1,7 +1,8 @@
 use Rattle.std.proofs.Common.{◌≡◌, length, sym, ◌∙◌}
 use Rattle.diff_render.proofs.RowEnds.{row_erased, row_same_end, rests_differ, rests_same, rests_none}
 use Rattle.diff_render.proofs.rows.draw_line.Goals as goal
-use Rattle.diff_render.proofs.rows.draw_line.Goals.{else-end-new-via-then-end-new+else-ne, else-end-new-via-else-end-new}
+use Rattle.diff_render.proofs.rows.draw_line.Goals.{else-end-new-via-then-end-new+else-ne}
+use Rattle.diff_render.proofs.rows.draw_line.Goals.{else-end-new-via-else-end-new}
 
 pub returns-in_ok-erase_line : goal.returns-in_ok-erase_line
 returns-in_ok-erase_line c =
