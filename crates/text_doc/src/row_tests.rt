@@ -11,19 +11,20 @@ fn letter(number: usize) -> char {
 /// Checks the rows of a document against those that a walk of its plain list meets.
 fn check_rows(rt: &impl Abort, doc: &Doc, plain: &[char]) {
     assert!(rt; doc.has_text(plain));
-    let mut row = 0;
+    let mut row: usize = 0;
     let mut start = 0;
     for (at, c) in plain.iter().enumerate() {
         if at % 37 == 0 {
+            let col = at.saturating_sub(start);
             assert!(rt; at <= doc.len());
-            assert_eq!(rt; doc.row_col_of(at), (row, at - start), "at {at}");
+            assert_eq!(rt; doc.row_col_of(at), (row, col), "at {at}");
             assert_eq!(rt; doc.line_start_from(at), start, "at {at}");
-            assert_eq!(rt; doc.index_of(row, at - start), at, "at {at}");
+            assert_eq!(rt; doc.index_of(row, col), at, "at {at}");
         }
         if *c == '\n' {
             assert!(rt; start <= doc.len());
             assert_eq!(rt; doc.line_end_from(start), at, "from {start}");
-            row += 1;
+            row = row.saturating_add(1);
             start = at + 1;
         }
     }
@@ -71,8 +72,10 @@ fn deleted_from_the_middle(rt: HostRuntime) -> Result<(), Fail> {
         (200, 400),
         (0, 400),
     ] {
+        assert!(rt; from <= to);
+        assert!(rt; to <= text.len());
+        assert!(rt; text.len() <= MAX_LENGTH);
         let mut doc = Doc::new(rt.alloc(), text.copy()?, 0)?;
-        assert!(rt; to <= doc.len());
         doc.delete(from, to);
         let mut plain = Text::from_chars(rt.alloc(), &text.as_slice()[..from])?;
         plain.extend_from_slice(&text.as_slice()[to..])?;
