@@ -139,7 +139,8 @@ impl Buffer {
     }
 }
 
-fn keep_newest(lines: &mut Vec<Text>)
+/// Drops the oldest lines of a history above the newest 1,000.
+pub fn keep_newest(lines: &mut Vec<Text>)
     ensures { lines.new.items ≡ newest lines.old.items }
 {
     let excess = lines.len().saturating_sub(MAX_ENTRIES);

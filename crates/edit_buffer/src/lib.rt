@@ -14,7 +14,7 @@ mod snapshots;
 mod tests;
 mod undo;
 
-pub use buffers::{Buffer, MAX_ENTRIES};
+pub use buffers::{Buffer, MAX_ENTRIES, keep_newest};
 pub use edits::{Applied, Edit};
 pub use faults::EditFault;
 pub use menus::{MAX_ITEMS, Menu};

@@ -1,4 +1,3 @@
-pub mod DrawLemmas
 pub mod PlayLemmas
 pub mod ScriptLemmas
 pub mod ShowLemmas

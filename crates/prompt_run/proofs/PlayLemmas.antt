@@ -1,61 +1,36 @@
 -- How a player keeps up with a play.
-use Rattle.std.proofs.Common.{◌≡◌, ℕ, ◌≤◌, Bool, true, false, List, [], ◌∷◌, ◌++◌, length, ◌||◌, is_some, Option, Some, None, if◌then◌else◌, refl, ap, sym, ◌∙◌, subst, arith, append-nil, append_assoc}
+use Rattle.std.proofs.Common.{◌≡◌, ℕ, ◌+◌, ◌<◌, ◌≤◌, zero, suc, add-one, Bool, true, false, List, [], ◌∷◌, ◌++◌, length, ◌||◌, is_some, Option, Some, None, if◌then◌else◌, refl, ap, sym, ◌∙◌, subst, arith, append-nil, append_assoc}
 use Rattle.events.specs.declared.events.Event.{Event}
-use Rattle.events.specs.declared.events.Event.TheVariants.{Start, Piece, Tick, Resize, Answer, End}
+use Rattle.events.specs.declared.events.Event.TheVariants.{Start}
 use Rattle.std.proofs.lemmas.Bool.{false≢true}
 use Rattle.std.specs.List.{concat}
 use Rattle.cell_grid.specs.Size.{Extent}
 use Rattle.cell_grid.specs.declared.drawing.Drawing.{Drawing}
-use Rattle.diff_render.specs.Frames.{put, Agree, Begins, screen_after}
+use Rattle.diff_render.specs.Frames.{put, Agree, Begins, screen_after, WasDrawnAt}
 use Rattle.diff_render.specs.declared.shown.OnScreen.{OnScreen}
-use Rattle.term_model.specs.Obeying.{acted, forgotten, obeyed_bytes}
+use Rattle.diff_render.specs.declared.shown.OnScreen.TheVariants.{Nothing}
+use Rattle.term_model.specs.Obeying.{acted, forgotten, line_of, obeyed_bytes}
 use Rattle.term_model.specs.Term.{Term, IsTerminal}
-use Rattle.session_core.specs.Draw.{draw, settle, window_of}
-use Rattle.session_core.specs.Keys.{is_accept, edited, ran}
-use Rattle.session_core.specs.Next.{next}
+use Rattle.session_core.proofs.StateLemmas.{again_size, draw_high, next_size}
+use Rattle.session_core.specs.Draw.{draw}
+use Rattle.session_core.specs.Next.{again, is_accepted, next, size_after}
 use Rattle.session_core.specs.State.{State, has_ended}
-use Rattle.session_core.specs.declared.outcomes.Outcome.TheVariants.{Accepted}
-use Rattle.win_view.proofs.WindowLaws.{length-window_rows}
-use Rattle.session_core.specs.Draw.{content_of}
+use Rattle.session_core.specs.declared.outcomes.Outcome.{Outcome}
 use Rattle.diff_render.specs.Canvas.{Spells, reads}
 use Rattle.term_model.proofs.ActedLemmas.{acted-append}
 use Rattle.prompt_run.specs.FramesShown.{FramesShow, obeyed_each, obeying}
-use Rattle.prompt_run.specs.Play.{Play, accepted, done, done_by}
-use Rattle.prompt_run.specs.Playing.{Finishes, Holds, KeepsFrames}
+use Rattle.prompt_run.specs.Play.{Play, accepted, done, done_by, followed, lines_left, with_event}
+use Rattle.prompt_run.specs.Playing.{Finishes, Holds, HoldsAt, KeepsFrames}
 use Rattle.prompt_run.specs.Replay.{Closes, IsFramesOf}
-use Rattle.prompt_run.specs.Run.{Run, base_at, ran_on, shown_at, size_after, terminal_at}
+use Rattle.prompt_run.specs.Run.{Run, base_at, ran_on, reopened, reopened_if, shown_at, terminal_at}
 use Rattle.prompt_run.specs.Script.{final_by}
 use Rattle.prompt_run.specs.Terminals.{Keeps, Obeys}
 use Rattle.prompt_run.specs.Turn.{ShowsState}
 use Rattle.prompt_run.specs.declared.players.Player.{Player}
+use Rattle.prompt_run.specs.declared.terminals.TerminalScreen.{TerminalScreen}
 use Rattle.prompt_run.proofs.TurnLemmas.{drawn_behind}
 use Rattle.diff_render.proofs.Chaining.{begins_again, put-agree}
 use Rattle.prompt_run.proofs.ShowLemmas.{agree_at, base_agree, begins_at}
-
--- ---- sizes
-
--- running keys keeps the size
-ran-size : (s : State) (bytes : List ℕ) → (ran s bytes).size ≡ s.size
-ran-size s [] = refl
-ran-size s (byte ∷ bytes) = by (is_accept byte) (ran-size (settle (record s { doc = edited s.doc byte })) bytes)
-  where
-    by : (b : Bool) → (ran (settle (record s { doc = edited s.doc byte })) bytes).size ≡ s.size
-        → (if b then settle (record s { outcome = Some (Accepted s.doc.text); kept = bytes }) else ran (settle (record s { doc = edited s.doc byte })) bytes).size ≡ s.size
-    by true rest = refl
-    by false rest = rest
-
--- the size behind an event
-pub next-size : (s : State) (event : Event) → (next s event).size ≡ size_after event s.size
-next-size s Start = ran-size (settle (record s { kept = [] })) s.kept
-next-size s (Piece bytes) = ran-size s bytes
-next-size s (Tick moment) = refl
-next-size s (Resize size) = refl
-next-size s (Answer batch) = refl
-next-size s End = refl
-
--- a drawing is no higher than the terminal
-pub draw-high : (s : State) → length (draw s).grid ≤ s.size.rows
-draw-high s = omega (arith, length-window_rows (content_of s) (window_of s) s.scroll)
 
 -- ---- frames
 
@@ -86,53 +61,16 @@ concat-more : (frames : List (List ℕ)) (frame : List ℕ) → concat (frames +
 concat-more [] frame = append-nil frame
 concat-more (first ∷ frames) frame = ap (λ rest. first ++ rest) (concat-more frames frame) ∙ sym (append_assoc first (concat frames) frame)
 
--- ---- an event
-
--- an event behind the end changes nothing
-pub held_ended : (player : Player) (p : Play) (event : Event) → Holds player p → has_ended player.session ≡ true → Holds player (done p event)
-held_ended player p event holds ended =
-    let over : has_ended p.run.state ≡ true = ap has_ended (sym holds.state) ∙ ended in
-    let P : Bool → Type 0 = λ b. Holds player (done_by b p event) in subst P (sym over) holds
-
--- what the steps of an event do to a player whose prompt goes on: the terminal takes a resize and then obeys the frame
-pub record Advances (old : Player) (event : Event) (new : Player) : Type 0 where
-  pub sized : Term
-  pub resize : sized ≡ terminal_at old.session.size (size_after event old.session.size) old.screen.terminal
-  pub terminal : IsTerminal sized
-  pub rows : 1 ≤ new.session.size.rows
-  pub state : new.session ≡ next old.session event
-  pub frame : List ℕ
-  pub obeys : Obeys sized frame new.screen.terminal
-  pub keeps : Keeps old.screen.frames frame new.screen.frames
-  pub shows : ShowsState (shown_at old.session.size new.session.size old.shown) new.session frame
-  pub shown : new.shown ≡ screen_after (is_some new.session.outcome) (draw new.session) new.session.size
-  pub answers : new.answers ≡ old.answers ++ accepted new.session.outcome
-  pub reports : new.reports.items ≡ old.reports.items
-
-goes_on : (a b : Bool) → (a || b) ≡ false → b ≡ false
-goes_on true b e = absurd (false≢true (sym e))
-goes_on false b e = e
-
--- what is on the screen begins the next frame where the prompt goes on
-begins_by : (over : Bool) → over ≡ false → (size : Extent) (drawing : Drawing) (before : OnScreen) (x t : Term) (base : ℕ) (shown : OnScreen)
-    → Begins size before x base → IsTerminal t → length drawing.grid ≤ size.rows → shown ≡ screen_after over drawing size → Agree t (put x base drawing over)
-    → Begins size shown t base
-begins_by true e size drawing before x t base shown begins terminal high kept seen = absurd (false≢true (sym e))
-begins_by false e size drawing before x t base shown begins terminal high kept seen =
-    let P : OnScreen → Type 0 = λ screen. Begins size screen t base in
-    subst P (sym kept) (begins_again size before x t base drawing begins terminal high seen)
-
 -- the frames that are kept are those of one event more
-keeps_more : (before now : Option (List ℕ)) (p : Play) (event : Event) (t sized u : Term) (frame : List ℕ) → Spells frame (reads frame) → KeepsFrames before p t → Keeps before frame now
-    → sized ≡ terminal_at p.run.state.size (next p.run.state event).size t → u ≡ obeyed_bytes sized frame → Agree u (ran_on p.run event).screen
-    → KeepsFrames now (done_by false p event) u
-keeps_more None now p event t sized u frame ends kept keeps resize obeys agree =
-    let P : Option (List ℕ) → Type 0 = λ frames. KeepsFrames frames (done_by false p event) u in subst P (sym keeps) tt
-keeps_more (Some bytes) now p event t sized u frame ends kept keeps resize obeys agree =
-    let P : Option (List ℕ) → Term → Type 0 = λ frames x. KeepsFrames frames (done_by false p event) x in
-    let is : u ≡ obeying t p.run event frame = obeys ∙ ap (λ x. obeyed_bytes x frame) resize in
-    let seen : Agree (obeying t p.run event frame) (ran_on p.run event).screen = subst (λ x. Agree x (ran_on p.run event).screen) is agree in
-    subst (λ frames. P frames u) (sym keeps) (subst (λ x. P (Some (bytes ++ frame)) x) (sym is) (
+keeps_more : (before now : Option (List ℕ)) (p : Play) (event : Event) (t u : Term) (frame : List ℕ) → Spells frame (reads frame)
+    → KeepsFrames before p t → Keeps before frame now → u ≡ obeying t p.run event frame → Agree u (ran_on p.run event).screen
+    → KeepsFrames now (with_event p event) u
+keeps_more None now p event t u frame ends kept keeps obeys agree =
+    let P : Option (List ℕ) → Type 0 = λ frames. KeepsFrames frames (with_event p event) u in subst P (sym keeps) tt
+keeps_more (Some bytes) now p event t u frame ends kept keeps obeys agree =
+    let P : Option (List ℕ) → Term → Type 0 = λ frames x. KeepsFrames frames (with_event p event) x in
+    let seen : Agree (obeying t p.run event frame) (ran_on p.run event).screen = subst (λ x. Agree x (ran_on p.run event).screen) obeys agree in
+    subst (λ frames. P frames u) (sym keeps) (subst (λ x. P (Some (bytes ++ frame)) x) (sym obeys) (
       kept.0 ++ frame ∷ [],
       frames-more p.first.screen p.first p.events kept.0 t p.run event frame kept.1 ends seen,
       ap (λ front. front ++ frame) kept.2 ∙ sym (concat-more kept.0 frame),
@@ -156,18 +94,71 @@ closes_frames asked p refused player bytes status finishes kept same =
     let C : Bool → Type 0 = λ b. Closes b p refused bytes status in
     subst C (sym (ap is_some kept) ∙ same) (frames_of (final_by p refused) player.screen.terminal bytes (subst P kept finishes.frames), finishes.status)
 
+-- ---- an event
+
+-- an event behind the end changes nothing
+pub held_ended : (player : Player) (p : Play) (event : Event) → Holds player p → has_ended player.session ≡ true → Holds player (done p event)
+held_ended player p event holds ended =
+    let over : has_ended p.run.state ≡ true = ap has_ended (sym holds.state) ∙ ended in
+    let P : Bool → Type 0 = λ b. Holds player (done_by b p event) in subst P (sym over) holds
+
+-- what the steps of an event do to a player whose prompt goes on: the terminal takes a resize and then obeys the frame
+pub record Advances (old : Player) (event : Event) (new : Player) : Type 0 where
+  pub sized : Term
+  pub resize : sized ≡ terminal_at old.session.size (size_after event old.session.size) old.screen.terminal
+  pub terminal : IsTerminal sized
+  pub rows : 1 ≤ new.session.size.rows
+  pub going : has_ended old.session ≡ false
+  pub state : new.session ≡ next old.session event
+  pub frame : List ℕ
+  pub obeys : Obeys sized frame new.screen.terminal
+  pub keeps : Keeps old.screen.frames frame new.screen.frames
+  pub shows : ShowsState (shown_at old.session.size new.session.size old.shown) new.session frame
+  pub shown : new.shown ≡ screen_after (is_some new.session.outcome) (draw new.session) new.session.size
+  pub repeat : new.repeat ≡ old.repeat
+  pub answers : new.answers ≡ old.answers ++ accepted new.session.outcome
+  pub reports : new.reports.items ≡ old.reports.items
+
+goes_on : (a b : Bool) → (a || b) ≡ false → b ≡ false
+goes_on true b e = absurd (false≢true (sym e))
+goes_on false b e = e
+
+-- what is on the screen begins the next frame where the prompt goes on
+begins_by : (over : Bool) → over ≡ false → (size : Extent) (drawing : Drawing) (before : OnScreen) (x t : Term) (base : ℕ) (shown : OnScreen)
+    → Begins size before x base → IsTerminal t → length drawing.grid ≤ size.rows → shown ≡ screen_after over drawing size → Agree t (put x base drawing over)
+    → Begins size shown t base
+begins_by true e size drawing before x t base shown begins terminal high kept seen = absurd (false≢true (sym e))
+begins_by false e size drawing before x t base shown begins terminal high kept seen =
+    let P : OnScreen → Type 0 = λ screen. Begins size screen t base in
+    subst P (sym kept) (begins_again size before x t base drawing begins terminal high seen)
+
+-- and where it has ended, nothing is shown, and a next frame begins on the cursor's line
+ends_by : (over : Bool) → over ≡ true → (size : Extent) (drawing : Drawing) (before : OnScreen) (x t screen : Term) (base : ℕ) (shown : OnScreen)
+    → Begins size before x base → IsTerminal t → shown ≡ screen_after over drawing size → Agree t (put x base drawing over) → Agree t screen
+    → (shown ≡ Nothing) × Begins size Nothing t (line_of screen)
+ends_by false e size drawing before x t screen base shown begins terminal kept seen agree = absurd (false≢true e)
+ends_by true e size drawing before x t screen base shown begins terminal kept seen agree = (
+  kept,
+  record {
+    terminal = terminal;
+    tall = ap (λ (y : Term). y.rows) seen ∙ begins.tall;
+    wide = ap (λ (y : Term). y.cols) seen ∙ begins.wide;
+    base_line = ap line_of (sym agree);
+  },
+)
+
 -- so the player holds the play with that event
-pub held_next : (old new : Player) (p : Play) (event : Event) → Holds old p → has_ended old.session ≡ false → Advances old event new → Holds new (done p event)
-held_next old new p event holds going advances =
-    let r : Run = p.run in
+pub held_event : (old new : Player) (p : Play) (event : Event) → HoldsAt old (reopened p.run) p → Advances old event new → Holds new (with_event p event)
+held_event old new p event holds advances =
+    let r : Run = reopened p.run in
     let S : State = next r.state event in
-    let on : has_ended r.state ≡ false = ap has_ended (sym holds.state) ∙ going in
+    let on : has_ended r.state ≡ false = ap has_ended (sym holds.state) ∙ advances.going in
     let is : new.session ≡ S = advances.state ∙ ap (λ s. next s event) holds.state in
     let over : Bool = is_some S.outcome in
     let t : Term = old.screen.terminal in
     let u : Term = terminal_at r.state.size S.size t in
     let sized : advances.sized ≡ u =
-    advances.resize ∙ ap (λ s. terminal_at s.size (size_after event s.size) t) holds.state ∙ ap (λ e. terminal_at r.state.size e t) (sym (next-size r.state event)) in
+    advances.resize ∙ ap (λ s. terminal_at s.size (size_after event s.size) t) holds.state ∙ ap (λ e. terminal_at r.state.size e t) (sym (next_size r.state event)) in
     let base : ℕ = base_at r.state.size S.size r.screen r.base in
     let rows : 1 ≤ S.size.rows = subst (λ (s : State). 1 ≤ s.size.rows) is advances.rows in
     let begins : Begins S.size (shown_at r.state.size S.size old.shown) u base =
@@ -179,18 +170,83 @@ held_next old new p event holds going advances =
     let obeyed_u : new.screen.terminal ≡ obeyed_bytes u advances.frame = advances.obeys.obeyed ∙ ap (λ x. obeyed_bytes x advances.frame) sized in
     let seen : Agree new.screen.terminal (put u base (draw S) over) =
     subst (λ x. Agree x (put u base (draw S) over)) (sym obeyed_u) (shows.shows u base begins) in
-    let agrees : Agree new.screen.terminal (ran_on r event).screen =
+    let agrees : Agree new.screen.terminal (ran_on p.run event).screen =
     seen ∙ ap forgotten (put-agree u (terminal_at r.state.size S.size r.screen) base (draw S) over (agree_at r.state.size S.size t r.screen holds.agrees)) in
     let kept : new.shown ≡ screen_after over (draw S) S.size = advances.shown ∙ ap (λ s. screen_after (is_some s.outcome) (draw s) s.size) is in
-    let P : Bool → Type 0 = λ b. Holds new (done_by b p event) in
-    subst P (sym on) (record {
+    record {
       state = is;
       agrees = agrees;
       begins = λ still. begins_by over (goes_on S.failed over still) S.size (draw S) (shown_at r.state.size S.size old.shown) u new.screen.terminal base new.shown begins
-          advances.obeys.terminal (draw-high S) kept seen;
+          advances.obeys.terminal (draw_high S) kept seen;
+      ended = λ done. ends_by over done S.size (draw S) (shown_at r.state.size S.size old.shown) u new.screen.terminal (ran_on p.run event).screen base new.shown begins
+          advances.obeys.terminal kept seen agrees;
       drawn = λ still. drawn_behind S new.shown kept;
+      repeat = advances.repeat ∙ holds.repeat;
       answers = advances.answers ∙ ap (λ lines. lines ++ accepted new.session.outcome) holds.answers ∙ ap (λ s. p.answers ++ accepted s.outcome) is;
       reports = advances.reports ∙ holds.reports;
-      frames = keeps_more old.screen.frames new.screen.frames p event t advances.sized new.screen.terminal advances.frame shows.ends holds.frames advances.keeps
-          sized advances.obeys.obeyed agrees;
+      frames = keeps_more old.screen.frames new.screen.frames p event t new.screen.terminal advances.frame shows.ends holds.frames advances.keeps
+          obeyed_u agrees;
+    }
+
+-- ---- the prompts of a run
+
+not_accepted : (a : Bool) (outcome : Option Outcome) → (a || is_some outcome) ≡ false → is_accepted outcome ≡ false
+not_accepted a None on = refl
+not_accepted true (Some outcome) on = absurd (false≢true (sym on))
+not_accepted false (Some outcome) on = absurd (false≢true (sym on))
+
+-- a prompt that goes on is not opened again
+pub goes_on_at : (player : Player) (p : Play) → Holds player p → has_ended player.session ≡ false → HoldsAt player (reopened p.run) p
+goes_on_at player p holds going =
+    let on : is_accepted p.run.state.outcome ≡ false = not_accepted p.run.state.failed p.run.state.outcome (ap has_ended (sym holds.state) ∙ going) in
+    let P : Bool → Type 0 = λ b. HoldsAt player (reopened_if b p.run) p in
+    subst P (sym on) holds
+
+accepted_some : (outcome : Option Outcome) → is_accepted outcome ≡ true → is_some outcome ≡ true
+accepted_some None is = is
+accepted_some (Some outcome) is = refl
+
+no_outcome : (s : State) → is_some (again s).outcome ≡ false
+unfolding again
+no_outcome s = refl
+
+-- behind an accepted line the next prompt is opened
+pub held_again : (old new : Player) (p : Play) → Holds old p → is_accepted old.session.outcome ≡ true → new.session ≡ again old.session → new.shown ≡ old.shown
+    → new.screen ≡ old.screen → new.repeat ≡ old.repeat → new.answers ≡ old.answers → new.reports.items ≡ old.reports.items → HoldsAt new (reopened p.run) p
+held_again old new p holds is state shown screen repeat answers reports =
+    let accepted : is_accepted p.run.state.outcome ≡ true = ap (λ (s : State). is_accepted s.outcome) (sym holds.state) ∙ is in
+    let over = holds.ended (accepted_some p.run.state.outcome accepted) in
+    let nothing : new.shown ≡ Nothing = shown ∙ over.0 in
+    let P : Bool → Type 0 = λ b. HoldsAt new (reopened_if b p.run) p in
+    let begins : Begins (again p.run.state).size new.shown new.screen.terminal (line_of p.run.screen) =
+    subst (λ size. Begins size new.shown new.screen.terminal (line_of p.run.screen)) (sym (again_size p.run.state))
+    (subst (λ x. Begins p.run.state.size x new.screen.terminal (line_of p.run.screen)) (sym nothing)
+    (subst (λ (x : TerminalScreen). Begins p.run.state.size Nothing x.terminal (line_of p.run.screen)) (sym screen) over.1)) in
+    subst P (sym accepted) (record {
+      state = state ∙ ap again holds.state;
+      agrees = subst (λ (x : TerminalScreen). Agree x.terminal p.run.screen) (sym screen) holds.agrees;
+      begins = λ going. begins;
+      ended = λ done. absurd (false≢true (sym (no_outcome p.run.state) ∙ done));
+      drawn = λ going. subst (WasDrawnAt (again p.run.state).size) (sym nothing) tt;
+      repeat = repeat ∙ holds.repeat;
+      answers = answers ∙ holds.answers;
+      reports = reports ∙ holds.reports;
+      frames = subst (λ (x : TerminalScreen). KeepsFrames x.frames p x.terminal) (sym screen) holds.frames;
     })
+
+-- a further prompt, where there is to be one more line at least
+pub followed_more : (p : Play) (left more : ℕ) → left ≡ more + 1 → is_accepted p.run.state.outcome ≡ true → followed left p ≡ followed more (with_event p Start)
+followed_more p left more is accepted =
+    ap (λ n. followed n p) (is ∙ add-one more)
+    ∙ ap (λ b. if b then followed more (with_event p Start) else p) accepted
+
+-- no further prompt
+pub followed_none : (p : Play) (left : ℕ) → (0 < left → is_accepted p.run.state.outcome ≡ false) → followed left p ≡ p
+followed_none p zero none = refl
+followed_none p (suc more) none = ap (λ b. if b then followed more (with_event p Start) else p) (none (omega arith))
+
+-- what is done behind an event of a prompt that goes on
+pub done_going : (player : Player) (p : Play) (event : Event) → Holds player p → has_ended player.session ≡ false
+    → followed (lines_left (with_event p event)) (with_event p event) ≡ done p event
+done_going player p event holds going =
+    let on : has_ended p.run.state ≡ false = ap has_ended (sym holds.state) ∙ going in ap (λ b. done_by b p event) (sym on)

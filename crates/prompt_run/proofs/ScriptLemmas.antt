@@ -1,14 +1,14 @@
 -- How the lines of a script are played one after another.
 use Rattle.std.proofs.Common.{◌≡◌, ℕ, ◌+◌, Bool, true, false, List, [], ◌∷◌, length, ◌&&◌, ◌==◌, Option, Some, None, if◌then◌else◌, refl, ap, sym, ◌∙◌, subst, arith}
 use Rattle.std.proofs.Math.Dec.{eqb-suc-zero}
-use Rattle.prompt_settings.specs.Settings.{Settings}
 use Rattle.script_lines.specs.declared.script_line.ScriptLine.{ScriptLine}
 use Rattle.script_lines.specs.Lines.{lines_of, onto_first}
 use Rattle.script_lines.specs.ScriptLine.{script_line}
+use Rattle.prompt_run.specs.Given.{Given}
 use Rattle.prompt_run.specs.Play.{Play, Played, begun, line_in, played, went}
 use Rattle.prompt_run.specs.Playing.{Holds, PlaysLine, SetsLine}
 use Rattle.prompt_run.specs.Replay.{Closes, IsFramesOf, IsOutput}
-use Rattle.prompt_run.specs.Script.{configured, ended_by, final_by, output, set_or_begun, settings_by, whole_play}
+use Rattle.prompt_run.specs.Script.{configured, ended_by, final_by, output, set_or_begun, given_by, whole_play}
 use Rattle.prompt_run.specs.declared.players.Player.{Player}
 
 -- what a line says before the bytes behind it
@@ -39,32 +39,32 @@ nothing_left (byte ∷ bytes) none = absurd (omega arith)
 -- ---- the first part
 
 -- a line that sets something
-pub next_setting : (start : Played) (long past : Bool) (rest line behind : List ℕ) (old new : Settings) (number : ℕ)
+pub next_setting : (start : Played) (long past : Bool) (rest line behind : List ℕ) (old new : Given) (number : ℕ)
     → start ≡ configured long (lines_of rest) old number → lines_of rest ≡ line ∷ lines_of behind → past ≡ (long && (length behind == 0))
     → SetsLine true old (if past then None else script_line line) new → start ≡ configured long (lines_of behind) new (number + 1)
 next_setting start long past rest line behind old new number so_far cut is sets =
     let second : Played = played long (line ∷ lines_of behind) (begun old) number in
     so_far ∙ ap (λ ls. configured long ls old number) cut
-    ∙ ap (λ said. set_or_begun (settings_by old said) (λ more. configured long (lines_of behind) more (number + 1)) second) (sym (line_before long past line behind is))
+    ∙ ap (λ said. set_or_begun (given_by old said) (λ more. configured long (lines_of behind) more (number + 1)) second) (sym (line_before long past line behind is))
     ∙ ap (λ found. set_or_begun found (λ more. configured long (lines_of behind) more (number + 1)) second) sets
 
 -- a line that does not
-pub last_setting : (start : Played) (long past : Bool) (rest line behind : List ℕ) (old new : Settings) (number : ℕ)
+pub last_setting : (start : Played) (long past : Bool) (rest line behind : List ℕ) (old new : Given) (number : ℕ)
     → start ≡ configured long (lines_of rest) old number → lines_of rest ≡ line ∷ lines_of behind → past ≡ (long && (length behind == 0))
     → SetsLine false old (if past then None else script_line line) new → start ≡ played long (lines_of rest) (begun new) number
 last_setting start long past rest line behind old new number so_far cut is sets =
     let second : Played = played long (line ∷ lines_of behind) (begun old) number in
     so_far ∙ ap (λ ls. configured long ls old number) cut
-    ∙ ap (λ said. set_or_begun (settings_by old said) (λ more. configured long (lines_of behind) more (number + 1)) second) (sym (line_before long past line behind is))
+    ∙ ap (λ said. set_or_begun (given_by old said) (λ more. configured long (lines_of behind) more (number + 1)) second) (sym (line_before long past line behind is))
     ∙ ap (λ found. set_or_begun found (λ more. configured long (lines_of behind) more (number + 1)) second) sets.0
     ∙ ap (λ ls. played long ls (begun old) number) (sym cut)
     ∙ ap (λ s. played long (lines_of rest) (begun s) number) (sym sets.1)
 
 -- no line is left
-pub no_setting : (start : Played) (long : Bool) (rest : List ℕ) (settings : Settings) (number : ℕ) → start ≡ configured long (lines_of rest) settings number → rest ≡ []
-    → start ≡ played long (lines_of rest) (begun settings) number
-no_setting start long rest settings number so_far none =
-    so_far ∙ ap (λ bytes. configured long (lines_of bytes) settings number) none ∙ ap (λ bytes. played long (lines_of bytes) (begun settings) number) (sym none)
+pub no_setting : (start : Played) (long : Bool) (rest : List ℕ) (given : Given) (number : ℕ) → start ≡ configured long (lines_of rest) given number → rest ≡ []
+    → start ≡ played long (lines_of rest) (begun given) number
+no_setting start long rest given number so_far none =
+    so_far ∙ ap (λ bytes. configured long (lines_of bytes) given number) none ∙ ap (λ bytes. played long (lines_of bytes) (begun given) number) (sym none)
 
 -- ---- the second part
 

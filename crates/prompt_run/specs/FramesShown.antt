@@ -3,14 +3,13 @@ use Rattle.std.specs.Prelude.{◌≡◌, ℕ, List, [], ◌∷◌}
 use Rattle.diff_render.specs.Canvas.{Spells, reads}
 use Rattle.diff_render.specs.Frames.{Agree}
 use Rattle.events.specs.declared.events.Event.{Event}
-use Rattle.session_core.specs.Next.{next}
 use Rattle.term_model.specs.Obeying.{obeyed_bytes}
 use Rattle.term_model.specs.Term.{Term}
-use Rattle.prompt_run.specs.Run.{Run, ran_on, terminal_at}
+use Rattle.prompt_run.specs.Run.{Run, ran_on, reopened, terminal_at}
 
 -- the terminal that took an event's resize, if it was one, and obeyed the event's frame
 abbrev pub obeying : Term → Run → Event → List ℕ → Term
-obeying t r event frame = obeyed_bytes (terminal_at r.state.size (next r.state event).size t) frame
+obeying t r event frame = obeyed_bytes (terminal_at (reopened r).state.size (ran_on r event).state.size t) frame
 
 -- the terminal that obeyed some frames one by one
 abbrev pub obeyed_each : Term → List (List ℕ) → Term

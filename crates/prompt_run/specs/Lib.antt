@@ -1,4 +1,5 @@
 pub mod FramesShown
+pub mod Given
 pub mod Play
 pub mod Playing
 pub mod Replay

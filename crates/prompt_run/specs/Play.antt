@@ -1,18 +1,20 @@
 -- What playing a script does: the run of its events, the lines that it accepts, and the reports that it asks for.
-use Rattle.std.specs.Prelude.{ℕ, ◌+◌, Bool, true, false, ◌||◌, List, [], ◌∷◌, ◌++◌, Option, Some, None, unwrap_or, if◌then◌else◌}
+use Rattle.std.specs.Prelude.{ℕ, ◌+◌, ◌-◌, zero, suc, length, Bool, true, false, ◌||◌, List, [], ◌∷◌, ◌++◌, Option, Some, None, unwrap_or, if◌then◌else◌}
 use Rattle.std.specs.List.{list_all}
 use Rattle.cell_grid.specs.Size.{Extent}
 use Rattle.events.specs.declared.events.Event.{Event}
 use Rattle.events.specs.declared.events.Event.TheVariants as event
-use Rattle.prompt_settings.specs.Settings.{Settings}
+use Rattle.prompt_settings.specs.Settings.{Settings, repeat_of}
 use Rattle.script_lines.specs.declared.script_line.ScriptLine.{ScriptLine}
 use Rattle.script_lines.specs.declared.script_line.ScriptLine.TheVariants as line
 use Rattle.script_lines.specs.ScriptLine.{script_line}
 use Rattle.session_core.specs.declared.outcomes.Outcome.{Outcome}
 use Rattle.session_core.specs.declared.outcomes.Outcome.TheVariants.{Accepted, EndOfFile, Interrupted}
 use Rattle.session_core.specs.Keys.{is_printable, is_erase, is_accept}
-use Rattle.session_core.specs.Next.{next}
-use Rattle.session_core.specs.State.{has_ended}
+use Rattle.session_core.specs.Next.{is_accepted}
+use Rattle.session_core.specs.State.{has_ended, opened}
+use Rattle.term_model.specs.Term.{start_of}
+use Rattle.prompt_run.specs.Given.{Given}
 use Rattle.prompt_run.specs.Report.{report_of}
 use Rattle.prompt_run.specs.Run.{Run, ran_on, waiting_run}
 
@@ -31,14 +33,28 @@ accepted (Some (Accepted text)) = text ∷ []
 accepted (Some EndOfFile) = []
 accepted (Some Interrupted) = []
 
--- an event behind the end of the prompt does nothing
-abbrev pub done_by : Bool → Play → Event → Play
-done_by true p event = p
-done_by false p event = record p {
+-- one event more, and the line that it accepts, if it does
+abbrev pub with_event : Play → Event → Play
+with_event p event = record p {
   run = ran_on p.run event;
-  answers = p.answers ++ accepted (next p.run.state event).outcome;
+  answers = p.answers ++ accepted (ran_on p.run event).state.outcome;
   events = p.events ++ event ∷ [];
 }
+
+-- behind an accepted line the next prompt begins at once, as long as there are to be so many more lines; the keys that were kept
+-- may accept its line too
+abbrev pub followed : ℕ → Play → Play
+followed zero p = p
+followed (suc more) p = if is_accepted p.run.state.outcome then followed more (with_event p event.Start) else p
+
+-- how many more lines the run accepts
+abbrev pub lines_left : Play → ℕ
+lines_left p = repeat_of p.first.state.settings - length p.answers
+
+-- an event behind the end of the run does nothing
+abbrev pub done_by : Bool → Play → Event → Play
+done_by true p event = p
+done_by false p event = followed (lines_left (with_event p event)) (with_event p event)
 
 abbrev pub done : Play → Event → Play
 done p event = done_by (has_ended p.run.state) p event
@@ -54,19 +70,18 @@ usual_size = record { rows = 24; cols = 80 }
 abbrev pub terminal_size : Settings → Extent
 terminal_size settings = unwrap_or settings.size usual_size
 
--- before the first event
-abbrev pub waiting : Settings → Play
-waiting settings = record {
-  first = waiting_run settings (terminal_size settings);
-  run = waiting_run settings (terminal_size settings);
-  answers = [];
-  reports = [];
-  events = [];
-}
+-- the run of a script before its first event, on a blank terminal
+abbrev pub first_run : Given → Run
+first_run given =
+    waiting_run (opened given.settings given.entries (terminal_size given.settings) 0) (start_of (terminal_size given.settings))
 
--- the prompt begins
-abbrev pub begun : Settings → Play
-begun settings = done (waiting settings) event.Start
+-- before the first event
+abbrev pub waiting : Given → Play
+waiting given = record { first = first_run given; run = first_run given; answers = []; reports = []; events = [] }
+
+-- the first prompt begins
+abbrev pub begun : Given → Play
+begun given = done (waiting given) event.Start
 
 -- a key that is known: printable ASCII, the key that erases, or the key that accepts
 abbrev pub is_key : ℕ → Bool

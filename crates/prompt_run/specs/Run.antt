@@ -1,16 +1,15 @@
--- What a run does: the state of the prompt, and the screen that shows it from a base line on, one event at a time.
-use Rattle.std.specs.Prelude.{ℕ, max, Bool, ◌&&◌, nat_eq, is_some, if◌then◌else◌}
+-- What a run does: the state of its present prompt, and the screen that shows it from a base line on, one event at a time.
+use Rattle.std.specs.Prelude.{ℕ, max, Bool, true, false, ◌&&◌, nat_eq, is_some, if◌then◌else◌}
 use Rattle.cell_grid.specs.Size.{Extent}
 use Rattle.diff_render.specs.Frames.{put, forgetting}
 use Rattle.diff_render.specs.declared.shown.OnScreen.{OnScreen}
 use Rattle.events.specs.declared.events.Event.{Event}
-use Rattle.events.specs.declared.events.Event.TheVariants.{Start, Piece, Tick, Resize, Answer, End}
-use Rattle.prompt_settings.specs.Settings.{Settings}
 use Rattle.session_core.specs.Draw.{draw}
-use Rattle.session_core.specs.Next.{next}
-use Rattle.session_core.specs.State.{State, opened}
+use Rattle.session_core.specs.Next.{again, is_accepted, next}
+use Rattle.session_core.specs.State.{State}
+use Rattle.term_model.specs.Obeying.{line_of}
 use Rattle.term_model.specs.Resizing.{resized}
-use Rattle.term_model.specs.Term.{Term, start_of}
+use Rattle.term_model.specs.Term.{Term}
 
 -- the state, the screen, and the line from which on the screen shows the drawing
 pub record Run : Type 0 where
@@ -20,15 +19,6 @@ pub record Run : Type 0 where
 
 abbrev pub same_size : Extent → Extent → Bool
 same_size a b = nat_eq a.rows b.rows && nat_eq a.cols b.cols
-
--- the size behind an event, which was this one before
-abbrev pub size_after : Event → Extent → Extent
-size_after Start size = size
-size_after (Piece bytes) size = size
-size_after (Tick moment) size = size
-size_after (Resize new) size = new
-size_after (Answer batch) size = size
-size_after End size = size
 
 -- a terminal is resized where its size changes
 abbrev pub terminal_at : Extent → Extent → Term → Term
@@ -50,10 +40,18 @@ shown_after r s = record {
   base = base_at r.state.size s.size r.screen r.base;
 }
 
--- one event of a prompt that has not ended
-abbrev pub ran_on : Run → Event → Run
-ran_on r event = shown_after r (next r.state event)
+-- behind an accepted text there is a further prompt, whose base is the cursor's line
+abbrev pub reopened_if : Bool → Run → Run
+reopened_if true r = record r { state = again r.state; base = line_of r.screen }
+reopened_if false r = r
 
--- before its first event a prompt has a blank terminal
-abbrev pub waiting_run : Settings → Extent → Run
-waiting_run settings size = record { state = opened settings size 0; screen = start_of size; base = 0 }
+abbrev pub reopened : Run → Run
+reopened r = reopened_if (is_accepted r.state.outcome) r
+
+-- one event of a run that has not ended
+abbrev pub ran_on : Run → Event → Run
+ran_on r event = shown_after (reopened r) (next (reopened r).state event)
+
+-- a run before its first event, in this state and on this terminal, with the cursor's line as its base
+abbrev pub waiting_run : State → Term → Run
+waiting_run s t = record { state = s; screen = t; base = line_of t }

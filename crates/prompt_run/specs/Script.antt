@@ -2,7 +2,6 @@
 use Rattle.std.specs.Prelude.{ℕ, ◌+◌, Bool, nat_lt, List, [], length, ◌∷◌, ◌++◌, flat_map, Option, Some, None, codes, decimal, encode_utf8_all}
 use Rattle.events.specs.declared.events.Event.TheVariants as event
 use Rattle.prompt_settings.specs.Refusal.{refusal_of, with_setting}
-use Rattle.prompt_settings.specs.Settings.{Settings, no_settings}
 use Rattle.prompt_settings.specs.declared.configs.SetFault.{SetFault}
 use Rattle.script_lines.specs.declared.script_line.ScriptLine.{ScriptLine}
 use Rattle.script_lines.specs.declared.script_line.ScriptLine.TheVariants as line
@@ -10,42 +9,47 @@ use Rattle.script_lines.specs.Lines.{lines_of}
 use Rattle.script_lines.specs.Spelling.{spelling}
 use Rattle.session_core.specs.declared.outcomes.Outcome.{Outcome}
 use Rattle.session_core.specs.declared.outcomes.Outcome.TheVariants.{Accepted, EndOfFile, Interrupted}
+use Rattle.prompt_run.specs.Given.{Given, entries_in, nothing_given}
 use Rattle.prompt_run.specs.Play.{Play, Played, begun, done, line_in, played}
 use Rattle.prompt_run.specs.Report.{report_of}
 
--- the settings with this one, where it is not refused
-abbrev pub unless_refused : Option SetFault → Settings → Option Settings
-unless_refused None settings = Some settings
-unless_refused (Some fault) settings = None
+-- what is given with this besides, where it is not refused
+abbrev pub unless_refused : Option SetFault → Given → Option Given
+unless_refused None given = Some given
+unless_refused (Some fault) given = None
 
-abbrev pub set_in : Settings → List ℕ → List ℕ → Option Settings
-set_in settings name value = unless_refused (refusal_of settings name value) (with_setting settings name value)
+-- with this value of this name
+abbrev pub set_in : Given → List ℕ → List ℕ → Option Given
+set_in given name value = unless_refused (refusal_of given.settings name value) (record {
+  settings = with_setting given.settings name value;
+  entries = given.entries ++ entries_in name value;
+})
 
--- what a line of the first part says: settings that go on, or none where the line is refused or begins the second part
-abbrev pub settings_by : Settings → Option ScriptLine → Option Settings
-settings_by settings None = None
-settings_by settings (Some (line.Set name value)) = set_in settings name value
-settings_by settings (Some (line.Piece bytes)) = None
-settings_by settings (Some (line.Resize size)) = None
-settings_by settings (Some line.Show) = None
-settings_by settings (Some line.End) = None
+-- what a line of the first part says: what is given from there on, or none where the line is refused or begins the second part
+abbrev pub given_by : Given → Option ScriptLine → Option Given
+given_by given None = None
+given_by given (Some (line.Set name value)) = set_in given name value
+given_by given (Some (line.Piece bytes)) = None
+given_by given (Some (line.Resize size)) = None
+given_by given (Some line.Show) = None
+given_by given (Some line.End) = None
 
--- the first part goes on with these settings, or the prompt begins; the second part refuses a line that sets
-abbrev pub set_or_begun : Option Settings → (Settings → Played) → Played → Played
-set_or_begun (Some settings) more second = more settings
+-- the first part goes on with what is given, or the first prompt begins; the second part refuses a line that sets
+abbrev pub set_or_begun : Option Given → (Given → Played) → Played → Played
+set_or_begun (Some given) more second = more given
 set_or_begun None more second = second
 
 -- the lines from this number on, where each before them has set something
-abbrev pub configured : Bool → List (List ℕ) → Settings → ℕ → Played
-configured long [] settings number = (begun settings, None)
-configured long (text ∷ texts) settings number =
-    set_or_begun (settings_by settings (line_in long text texts))
+abbrev pub configured : Bool → List (List ℕ) → Given → ℕ → Played
+configured long [] given number = (begun given, None)
+configured long (text ∷ texts) given number =
+    set_or_begun (given_by given (line_in long text texts))
     (λ more. configured long texts more (number + 1))
-    (played long (text ∷ texts) (begun settings) number)
+    (played long (text ∷ texts) (begun given) number)
 
 -- the whole script, which is too long above 67,108,864 bytes
 abbrev pub whole_play : List ℕ → Played
-whole_play script = configured (nat_lt 67108864 (length script)) (lines_of script) no_settings 1
+whole_play script = configured (nat_lt 67108864 (length script)) (lines_of script) nothing_given 1
 
 -- the status of a prompt that has ended
 abbrev pub status_of : Option Outcome → ℕ

@@ -1,6 +1,7 @@
 //! Runs of prompts: from events to frames on a screen and accepted lines.
 #![tactic(auto)]
 
+mod openings;
 mod players;
 mod readers;
 mod replays;

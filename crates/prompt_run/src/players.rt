@@ -1,16 +1,18 @@
 //! Playing the events of a script over a model of a terminal.
-ghost use Rattle.std.specs.Prelude.{◌≡◌, ◌≤◌, ◌++◌, ℕ, IfOk, OnOk, List, is_some};
+ghost use Rattle.std.specs.Prelude.{◌≡◌, ◌≤◌, ◌++◌, ℕ, false, IfOk, IsTrue, OnOk, List, is_some};
 ghost use Rattle.diff_render.specs.Frames.{screen_after};
 ghost use Rattle.session_core.specs.Draw.{draw};
-ghost use Rattle.session_core.specs.Next.{next};
-ghost use Rattle.prompt_run.specs.Play.{Play, accepted, begun, done, reporting, terminal_size, waiting};
-ghost use Rattle.prompt_run.specs.Playing.{Holds};
-ghost use Rattle.prompt_run.specs.Run.{shown_at, size_after, terminal_at};
+ghost use Rattle.session_core.specs.Next.{is_accepted, next, size_after};
+ghost use Rattle.session_core.specs.State.{has_ended};
+ghost use Rattle.prompt_run.specs.Play.{Play, accepted, begun, done, followed, lines_left, reporting, terminal_size, waiting, with_event};
+ghost use Rattle.prompt_run.specs.Playing.{Holds, HoldsAt};
+ghost use Rattle.prompt_run.specs.Run.{Run, reopened, shown_at, terminal_at};
 ghost use Rattle.prompt_run.specs.Script.{status_of};
 ghost use Rattle.prompt_run.specs.Terminals.{Keeps, Obeys};
 ghost use Rattle.term_model.specs.Term.{IsTerminal};
 ghost use Rattle.prompt_run.specs.Turn.{MayTurn, ShowsState};
 
+use crate::openings::Opening;
 use crate::reports::write_screen;
 use crate::statuses::{ACCEPTED, END_OF_FILE, INTERRUPTED, Status};
 use crate::terminals::TerminalScreen;
@@ -22,30 +24,33 @@ use std::alloc::{AllocError, Global};
 use term_model::Terminal;
 use text_doc::{Bytes, Lines, NoMemory};
 
-/// A prompt in the middle of a script: its session, the terminal that shows it, the lines that it accepted, and the reports so
-/// far.
+/// A run in the middle of a script: its session, the terminal that shows it, how many lines it accepts before it ends, those that
+/// it accepted, and the reports so far.
 #[derive(Drop)]
 pub struct Player {
     pub alloc: Global,
     pub session: Session,
     pub shown: Shown,
     pub screen: TerminalScreen,
+    pub repeat: usize,
     pub answers: Lines,
     pub reports: Vec<u8>,
 }
 
 impl Player {
-    /// A prompt of these settings that has begun on a blank terminal. With `frames` the bytes of its frames are kept.
-    pub fn begin(alloc: Global, config: Config, frames: bool) -> Result<Player, NoMemory>
-        ensures begun { IfOk result (λ player. Holds player (begun config)) }
+    /// Returns a run of these settings and entries whose first prompt has begun on a blank terminal. With `frames` the bytes of its
+    /// frames are kept.
+    pub fn begin(alloc: Global, opening: Opening, frames: bool) -> Result<Player, NoMemory>
+        ensures begun { IfOk result (λ player. Holds player (begun opening)) }
         ensures frames { IfOk result (λ player. is_some player.screen.frames ≡ frames) }
     {
-        let mut player = waiting_player(alloc, config, frames)?;
+        let mut player = waiting_player(alloc, opening, frames)?;
         player.take(Event::Start)?;
         Ok(player)
     }
 
-    /// Does one event; behind the end of the prompt it does nothing. The terminal takes a resize with the session.
+    /// Does one event; behind the end of the run it does nothing. The terminal takes a resize with the session. Behind an accepted
+    /// line the next prompt begins at once, where there is to be one.
     pub fn take(&mut self, event: Event) -> Result<(), NoMemory>
         requires playing { (p : Play) × Holds self.old p }
         ensures done { OnOk result ((p : Play) → Holds self.old p → Holds self.new (done p event)) }
@@ -54,6 +59,17 @@ impl Player {
         if self.session.ended() {
             return Ok(());
         }
+        self.run_event(event)?;
+        self.follow()?;
+        Ok(())
+    }
+
+    /// Does one event of a prompt that goes on.
+    fn run_event(&mut self, event: Event) -> Result<(), NoMemory>
+        requires playing { (p : Play) × (r : Run) × HoldsAt self.old r p }
+        ensures done { OnOk result ((p : Play) → HoldsAt self.old (reopened p.run) p → Holds self.new (with_event p event)) }
+        ensures frames { OnOk result (is_some self.new.screen.frames ≡ is_some self.old.screen.frames) }
+    {
         resize_with(&mut self.screen.terminal, self.session.size(), &event)?;
         advance(
             self.alloc,
@@ -63,6 +79,43 @@ impl Player {
             &mut self.screen,
         )?;
         keep_answer(&mut self.answers, &self.session)?;
+        Ok(())
+    }
+
+    /// Begins the next prompt behind an accepted line, and again behind each that the kept keys accept, as long as there are to be
+    /// more lines.
+    fn follow(&mut self) -> Result<(), NoMemory>
+        requires playing { (p : Play) × Holds self.old p }
+        ensures followed { OnOk result ((p : Play) → Holds self.old p → Holds self.new (followed (lines_left p) p)) }
+        ensures frames { OnOk result (is_some self.new.screen.frames ≡ is_some self.old.screen.frames) }
+    {
+        let mut left = self.repeat.saturating_sub(self.answers.len());
+        while left > 0 {
+            if !self.has_accepted() {
+                return Ok(());
+            }
+            self.begin_next()?;
+            left -= 1;
+        }
+        Ok(())
+    }
+
+    /// Tells whether the present prompt accepted a text.
+    fn has_accepted(&self) -> bool
+        ensures { result ≡ is_accepted self.now.session.outcome }
+    {
+        matches!(self.session.outcome(), Some(Outcome::Accepted(_)))
+    }
+
+    /// Begins the next prompt behind an accepted line.
+    fn begin_next(&mut self) -> Result<(), NoMemory>
+        requires playing { (p : Play) × Holds self.old p }
+        requires accepted { IsTrue (is_accepted self.old.session.outcome) }
+        ensures next { OnOk result ((p : Play) → Holds self.old p → Holds self.new (with_event p Event.Start)) }
+        ensures frames { OnOk result (is_some self.new.screen.frames ≡ is_some self.old.screen.frames) }
+    {
+        self.session.again()?;
+        self.run_event(Event::Start)?;
         Ok(())
     }
 
@@ -87,13 +140,15 @@ impl Player {
     }
 }
 
-/// A prompt that has not begun, on a blank terminal.
-fn waiting_player(alloc: Global, config: Config, frames: bool) -> Result<Player, NoMemory>
-    ensures waiting { IfOk result (λ player. Holds player (waiting config)) }
+/// Returns a run that has not begun, on a blank terminal.
+fn waiting_player(alloc: Global, opening: Opening, frames: bool) -> Result<Player, NoMemory>
+    ensures waiting { IfOk result (λ player. Holds player (waiting opening)) }
     ensures frames { IfOk result (λ player. is_some player.screen.frames ≡ frames) }
 {
+    let Opening { config, entries } = opening;
     let size = size_of(&config);
-    let session = Session::new(alloc, config, Lines::new(alloc), size, 0)?;
+    let repeat = config.repeat() as usize;
+    let session = Session::new(alloc, config, entries, size, 0)?;
     let terminal = Terminal::start(alloc, size)?;
     let kept = if frames {
         Some(Bytes::new(alloc))
@@ -105,12 +160,13 @@ fn waiting_player(alloc: Global, config: Config, frames: bool) -> Result<Player,
         session,
         shown: Shown::nothing(),
         screen: TerminalScreen::new(terminal, kept),
+        repeat,
         answers: Lines::new(alloc),
         reports: Vec::new(alloc),
     })
 }
 
-/// The size of the terminal: the one that was set, or 24 rows of 80 columns.
+/// Returns the size of the terminal: the one that was set, or 24 rows of 80 columns.
 fn size_of(config: &Config) -> Size
     ensures { result ≡ terminal_size config.now }
 {
@@ -159,6 +215,7 @@ fn advance(
         × ShowsState (shown_at session.old.size session.new.size shown.old) session.new frame) }
     ensures shown { OnOk result (shown.new ≡ screen_after (is_some session.new.outcome) (draw session.new) session.new.size) }
     ensures rows { OnOk result (1 ≤ session.new.size.rows) }
+    ensures going { OnOk result (has_ended session.old ≡ false) }
 {
     match turn(alloc, session, shown, event, screen) {
         Ok(_) => {

@@ -1,21 +1,22 @@
 //! A script from its first line to its last, and what it prints.
 ghost use Rattle.std.specs.Prelude.{◌≡◌, ◌+◌, ◌<◌, ◌≤◌, ◌^◌, ◌++◌, ◌&&◌, ◌==◌, length, None, if◌then◌else◌, is_some, flat_map, IfOk, OnOk};
 ghost use Rattle.std.specs.List.{list_all};
-ghost use Rattle.prompt_settings.specs.Settings.{no_settings};
 ghost use Rattle.script_lines.specs.Lines.{lines_of};
 ghost use Rattle.script_lines.specs.ScriptLine.{script_line};
+ghost use Rattle.prompt_run.specs.Given.{nothing_given};
 ghost use Rattle.prompt_run.specs.Play.{Play, begun, is_key, played};
 ghost use Rattle.prompt_run.specs.Playing.{Finishes, Holds, PlaysLine, PlaysLines, SetsLine};
 ghost use Rattle.prompt_run.specs.Replay.{Closes, IsOutput};
 ghost use Rattle.prompt_run.specs.Script.{answer_row, closing, configured, output, refusal, status_row};
 
+use crate::openings::{Opening, new_opening, set};
 use crate::players::Player;
 use crate::readers::MAX_SCRIPT;
 use crate::reports::write_screen;
 use crate::statuses::{REFUSED_LINE, Status};
 use script_lines::{ScriptLine, cut_line, read_line, write_spelling};
-use session_core::{Config, Event, SetFault};
-use std::alloc::{AllocError, Global};
+use session_core::Event;
+use std::alloc::Global;
 use text_doc::{Lines, NoMemory, Text};
 
 /// Plays a script. Answers what it prints, or with `frames` the bytes of its frames, and its status.
@@ -24,37 +25,37 @@ pub fn play(alloc: Global, script: &[u8], frames: bool) -> Result<(Vec<u8>, Stat
     ensures status { IfOk result (λ printed. printed.1 ≡ (output script.now).1) }
 {
     let long = script.len() > MAX_SCRIPT;
-    let (config, rest, number) = read_settings(alloc, script, long)?;
-    let mut player = Player::begin(alloc, config, frames)?;
+    let (opening, rest, number) = read_opening(alloc, script, long)?;
+    let mut player = Player::begin(alloc, opening, frames)?;
     let refused = play_lines(alloc, &mut player, rest, number, long)?;
     let (printed, status) = close(player, refused)?;
     Ok((printed, status))
 }
 
-/// Reads the lines that set something, from the first on. Answers the settings, what stands behind those lines, and the number
+/// Reads the lines that set something, from the first on. Returns what they give, what stands behind those lines, and the number
 /// of the first line there.
-fn read_settings(
+fn read_opening(
     alloc: Global,
     script: &[u8],
     long: bool,
-) -> Result<(Config, &[u8], usize), NoMemory>
-    ensures configured { IfOk result (λ opening. configured long (lines_of script.now) no_settings 1
-        ≡ played long (lines_of opening.1.now) (begun opening.0) opening.2) }
-    ensures few { IfOk result (λ opening. opening.2 + length opening.1.now ≤ 1 + length script.now) }
+) -> Result<(Opening, &[u8], usize), NoMemory>
+    ensures configured { IfOk result (λ read. configured long (lines_of script.now) nothing_given 1
+        ≡ played long (lines_of read.1.now) (begun read.0) read.2) }
+    ensures few { IfOk result (λ read. read.2 + length read.1.now ≤ 1 + length script.now) }
 {
-    let mut config = Config::new(alloc)?;
+    let mut opening = new_opening(alloc)?;
     let mut rest = script;
     let mut number = 1usize;
     while !rest.is_empty() {
         let (line, behind) = cut_line(rest);
         let past = is_past(long, behind);
-        if !set_line(alloc, &mut config, line, past)? {
-            return Ok((config, rest, number));
+        if !set_line(alloc, &mut opening, line, past)? {
+            return Ok((opening, rest, number));
         }
         rest = behind;
         number += 1;
     }
-    Ok((config, rest, number))
+    Ok((opening, rest, number))
 }
 
 /// Plays the lines behind the settings, of which the first has this number. Answers the number of the line that is refused, if
@@ -95,18 +96,14 @@ fn is_past(long: bool, behind: &[u8]) -> bool
 
 /// Sets what a line says, and answers whether it is a line that sets something. The line that passes the most bytes of a
 /// script says nothing.
-fn set_line(alloc: Global, config: &mut Config, line: &[u8], past: bool) -> Result<bool, NoMemory>
-    ensures sets { IfOk result (λ sets. SetsLine sets config.old (if past then None else script_line line.now) config.new) }
+fn set_line(alloc: Global, opening: &mut Opening, line: &[u8], past: bool) -> Result<bool, NoMemory>
+    ensures sets { IfOk result (λ sets. SetsLine sets opening.old (if past then None else script_line line.now) opening.new) }
 {
     if past {
         return Ok(false);
     }
     match read_line(alloc, line)? {
-        Some(ScriptLine::Set { name, value }) => match config.set(name.as_str(), &value) {
-            Ok(()) => Ok(true),
-            Err(SetFault::NoMemory) => Err(AllocError),
-            Err(_) => Ok(false),
-        },
+        Some(ScriptLine::Set { name, value }) => set(opening, name.as_str(), value),
         _ => Ok(false),
     }
 }

@@ -72,6 +72,45 @@ fn prints_what_a_script_gives(rt: HostRuntime) -> Result<(), Fail> {
     Ok(())
 }
 
+/// Several prompts, of which each begins behind the line that the one before accepted.
+#[test]
+fn runs_several_prompts(rt: HostRuntime) -> Result<(), Fail> {
+    let two = "screen 24 80 2 0\n|> a\n|> b\n|\nanswer a\nanswer b\nstatus 0\n";
+    let cases = [
+        ("set repeat 2\npiece a\\x0db\\x0d\n", two, ACCEPTED),
+        (
+            "set repeat 2\npiece a\\x0d\npiece b\\x0dc\nresize 1 1",
+            two,
+            ACCEPTED,
+        ),
+        (
+            "set repeat 3\nset entry x\nset entry x\npiece a\\x0db\nshow\npiece \\x0d\n",
+            "screen 24 80 1 3\n|> a\n|> b\nscreen 24 80 3 0\n|> a\n|> b\n|>\n|\nanswer a\nanswer b\nstatus 1\n",
+            END_OF_FILE,
+        ),
+        // the second prompt begins on the last row, which scrolls
+        (
+            "set size 2x5\nset repeat 2\npiece a\\x0dbcdef\n",
+            "screen 2 5 1 0\n|ef\n|\nanswer a\nstatus 1\n",
+            END_OF_FILE,
+        ),
+        ("set repeat 0\n", "refused 1\nstatus 9\n", REFUSED_LINE),
+        ("set repeat 101\n", "refused 1\nstatus 9\n", REFUSED_LINE),
+        (
+            "set repeat 2\nset repeat 2\n",
+            "refused 2\nstatus 9\n",
+            REFUSED_LINE,
+        ),
+        ("set entry \n", "refused 1\nstatus 9\n", REFUSED_LINE),
+    ];
+    for (script, printed, status) in cases {
+        let (found, out) = replayed(rt.alloc(), &[], script, &[], &[])?;
+        assert_eq!(rt; out.as_slice(), printed.as_bytes(), "of {script:?}");
+        assert_eq!(rt; found, status, "of {script:?}");
+    }
+    Ok(())
+}
+
 /// Rows that wrap, a window that scrolls, and a terminal that changes its size.
 #[test]
 fn wraps_scrolls_and_resizes(rt: HostRuntime) -> Result<(), Fail> {

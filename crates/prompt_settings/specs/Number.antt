@@ -7,3 +7,8 @@ use Rattle.std.specs.Str.Parse.{digits_value}
 abbrev pub number_of : ℕ → List ℕ → Option ℕ
 number_of most text =
     if nat_le (digits_value 10 text) most && bytes_eq text (decimal (digits_value 10 text)) then Some (digits_value 10 text) else None
+
+-- a number that is 1 at least
+abbrev pub positive : Option ℕ → Option ℕ
+positive None = None
+positive (Some n) = if nat_le 1 n then Some n else None

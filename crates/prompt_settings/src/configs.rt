@@ -2,11 +2,11 @@
 ghost use Rattle.std.specs.Prelude.{◌≡◌, ◌↔◌, ◌≤◌, length, Err, IfOk, IsTrue, OnErr, OnOk, Some, None};
 ghost use Rattle.prompt_settings.specs.Name.{was_set};
 ghost use Rattle.prompt_settings.specs.Refusal.{refusal_of, with_setting};
-ghost use Rattle.prompt_settings.specs.Settings.{message_of, no_settings};
+ghost use Rattle.prompt_settings.specs.Settings.{message_of, no_settings, repeat_of};
 ghost use Rattle.prompt_settings.specs.Value.{is_value, with_value};
 
 use crate::names::{Setting, setting_named};
-use crate::values::{is_value, size_value};
+use crate::values::{is_value, repeat_value, size_value};
 use cell_grid::Size;
 use std::alloc::Global;
 use std::marker::Model;
@@ -46,6 +46,7 @@ impl From<NoMemory> for SetFault {
 pub struct Config {
     message: Option<Text>,
     size: Option<Size>,
+    repeat: Option<u32>,
 }
 
 impl Model for Config {
@@ -53,12 +54,15 @@ impl Model for Config {
 
     ghost Value = { Settings };
 
-    ghost view = { λ config. record { message = config.message; size = config.size } };
+    ghost view = { λ config. record { message = config.message; size = config.size; repeat = config.repeat } };
 
     ghost use Rattle.prompt_settings.specs.Value.{IsSettings};
 
-    ghost invariant = { λ config.
-        IsSettings (record { message = config.message; size = config.size }) };
+    ghost invariant = { λ config. IsSettings (record {
+      message = config.message;
+      size = config.size;
+      repeat = config.repeat;
+    }) };
 }
 
 impl Config {
@@ -69,13 +73,16 @@ impl Config {
         Ok(Config {
             message: None,
             size: None,
+            repeat: None,
         })
     }
 
     /// Sets the value of a name.
     ///
     /// `message` is the text before the first line that is typed: at most 200 characters, none of them a control
-    /// character. `size` is the size of the terminal, as `24x80`: 1 to 500 rows and 1 to 1,000 columns.
+    /// character. `size` is the size of the terminal, as `24x80`: 1 to 500 rows and 1 to 1,000 columns. `repeat` is how many
+    /// lines a run accepts before it ends, from 1 to 100. `entry` is an entry of the history, of 1 to 32,768 characters: its
+    /// value is only tried here, any number of times, and who sets it hands the entries to the session.
     ///
     /// # Errors
     ///
@@ -114,6 +121,8 @@ impl Config {
         match setting {
             Setting::Message => self.message = Some(value.copy()?),
             Setting::Size => self.size = size_value(value),
+            Setting::Repeat => self.repeat = repeat_value(value),
+            Setting::Entry => {}
         }
         Ok(())
     }
@@ -125,6 +134,8 @@ impl Config {
         match setting {
             Setting::Message => self.message.is_some(),
             Setting::Size => self.size.is_some(),
+            Setting::Repeat => self.repeat.is_some(),
+            Setting::Entry => false,
         }
     }
 
@@ -139,11 +150,13 @@ impl Config {
         }
     }
 
-    /// Returns how many lines a run accepts before it ends. No setting changes it yet.
+    /// Returns how many lines a run accepts before it ends: the number that was set, or 1.
     pub fn repeat(&self) -> u32
-        ensures { result ≡ 1 }
+        ensures lines { result ≡ repeat_of self.now }
+        ensures some { 1 ≤ result }
+        ensures few { result ≤ 100 }
     {
-        1
+        self.repeat.unwrap_or(1)
     }
 
     /// Returns the size of the terminal that was set.

@@ -9,6 +9,10 @@ pub enum Setting {
     Message,
     /// The size of the terminal.
     Size,
+    /// How many lines a run accepts before it ends.
+    Repeat,
+    /// An entry of the history, which scripts alone set.
+    Entry,
 }
 
 /// Returns the setting that has this name.
@@ -18,6 +22,8 @@ pub(crate) fn setting_named(name: &str) -> Option<Setting>
     match name {
         "message" => Some(Setting::Message),
         "size" => Some(Setting::Size),
+        "repeat" => Some(Setting::Repeat),
+        "entry" => Some(Setting::Entry),
         _ => None,
     }
 }

@@ -26,14 +26,37 @@ fn sets_values(rt: HostRuntime) -> Result<(), Fail> {
         ("size", "500x1000", Ok(())),
         ("size", "24x80", Err(SetFault::Repeated)),
         ("sizes", "24x80", Err(SetFault::UnknownName)),
+        ("repeat", "0", Err(SetFault::BadValue)),
+        ("repeat", "101", Err(SetFault::BadValue)),
+        ("repeat", "01", Err(SetFault::BadValue)),
+        ("repeat", "100", Ok(())),
+        ("repeat", "1", Err(SetFault::Repeated)),
+        ("entry", "", Err(SetFault::BadValue)),
+        ("entry", "a\nb", Ok(())),
+        ("entry", "a", Ok(())),
     ];
     for (name, value, answer) in &cases {
         let value = text(&rt, value)?;
         assert_eq!(rt; config.set(name, &value), *answer, "{name}");
     }
     assert_eq!(rt; config.message(), ['\u{e4}', '\u{3000}'].as_slice());
+    assert_eq!(rt; config.repeat(), 100);
     let size = config.size().expect(&rt, "the size that was set");
     assert_eq!(rt; (size.rows(), size.cols()), (500, 1000));
+    Ok(())
+}
+
+#[test]
+fn sets_entries_of_many_lengths(rt: HostRuntime) -> Result<(), Fail> {
+    let cases = [(32_768, Ok(())), (32_769, Err(SetFault::BadValue))];
+    for (length, answer) in &cases {
+        let mut entry = Text::new(rt.alloc());
+        for _ in 0..*length {
+            entry.push('a')?;
+        }
+        let mut config = Config::new(rt.alloc())?;
+        assert_eq!(rt; config.set("entry", &entry), *answer, "{length}");
+    }
     Ok(())
 }
 

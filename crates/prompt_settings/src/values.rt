@@ -3,15 +3,22 @@ ghost use Rattle.std.specs.Prelude.{◌≡◌, not};
 ghost use Rattle.std.specs.List.{list_all};
 ghost use Rattle.cell_grid.specs.TextCells.{is_control};
 ghost use Rattle.prompt_settings.specs.Size.{size_of};
-ghost use Rattle.prompt_settings.specs.Value.{is_short_line, is_value};
+ghost use Rattle.prompt_settings.specs.Value.{is_entry, is_short_line, is_value, line_count};
 
 use crate::names::Setting;
+use crate::numbers::read_number;
 use crate::sizes::read_size;
 use cell_grid::Size;
 use text_doc::Text;
 
 /// The most characters of a message.
 const MAX_MESSAGE: usize = 200;
+
+/// The most lines that a run accepts.
+const MAX_REPEAT: u64 = 100;
+
+/// The most characters of an entry of a history.
+const MAX_ENTRY: usize = 32_768;
 
 /// Tells whether the setting may have this value.
 pub(crate) fn is_value(setting: Setting, value: &Text) -> bool
@@ -20,6 +27,8 @@ pub(crate) fn is_value(setting: Setting, value: &Text) -> bool
     match setting {
         Setting::Message => is_short_line(value.as_slice()),
         Setting::Size => size_value(value).is_some(),
+        Setting::Repeat => repeat_value(value).is_some(),
+        Setting::Entry => is_entry(value.as_slice()),
     }
 }
 
@@ -28,6 +37,21 @@ pub(crate) fn size_value(value: &Text) -> Option<Size>
     ensures { result ≡ size_of 120 value.now }
 {
     read_size(value.as_slice(), 'x')
+}
+
+/// Returns the number of lines that is written so in a setting.
+pub(crate) fn repeat_value(value: &Text) -> Option<u32>
+    ensures { result ≡ line_count value.now }
+{
+    let lines = read_number(value.as_slice(), MAX_REPEAT)?;
+    if lines >= 1 { Some(lines as u32) } else { None }
+}
+
+/// Tells whether there are enough and few enough characters for an entry of a history.
+fn is_entry(text: &[char]) -> bool
+    ensures { result ≡ is_entry text.now }
+{
+    !text.is_empty() && text.len() <= MAX_ENTRY
 }
 
 /// Tells whether there are few enough characters, none of them a control character.

@@ -59,5 +59,6 @@ IsSettled s = (old : Scroll) × (s.scroll ≡ settled (content_of s) (window_of 
 abbrev pub drawn_view : WindowView → Drawn
 drawn_view view = record { grid = view.grid; row = view.row; col = view.col }
 
-abbrev pub draw : State → Drawn
+-- the full drawing of a state
+unfoldable pub draw : State → Drawn
 draw s = drawn_view (viewed (content_of s) (window_of s) s.scroll)

@@ -15,6 +15,7 @@ state_of s = record {
   size = s.size;
   moment = s.moment;
   settings = s.config;
+  history = s.history.items;
   scroll = s.scroll;
   outcome = s.outcome;
   kept = s.kept;

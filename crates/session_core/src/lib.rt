@@ -3,6 +3,7 @@
 
 mod drawings;
 mod edits;
+mod histories;
 mod outcomes;
 mod sessions;
 #[cfg(test)]

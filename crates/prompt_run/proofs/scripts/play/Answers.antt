@@ -9,10 +9,10 @@ use Rattle.prompt_run.proofs.scripts.play.Goals.{In_ok-printed}
 
 whole : (c : In_ok-printed) → IsOutput c.args.frames c.args.script.now c.in_ok-printed.printed.items × (c.in_ok-printed.status ≡ (output c.args.script.now).1)
 whole c =
-    let plays = c.in_ok-refused.ensures.plays (begun c.in_ok-config.config) c.in_ok-player.ensures.begun in
+    let plays = c.in_ok-refused.ensures.plays (begun c.in_ok-opening.opening) c.in_ok-player.ensures.begun in
     let P : Bool → Type 0 = λ frames. Closes frames plays.0 c.in_ok-refused.refused c.in_ok-printed.printed.items c.in_ok-printed.status in
     closes_script c.args.frames c.args.script.now c.in_ok-printed.printed.items plays.0 c.in_ok-refused.refused c.in_ok-printed.status
-    (c.in_ok-config.ensures.configured ∙ plays.2)
+    (c.in_ok-opening.ensures.configured ∙ plays.2)
     (subst P (c.in_ok-refused.ensures.frames ∙ c.in_ok-player.ensures.frames) (c.in_ok-printed.ensures.closes plays.0 plays.1))
 
 pub returns-clause-output : goal.returns-clause-output

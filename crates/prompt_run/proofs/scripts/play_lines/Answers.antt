@@ -1,10 +1,11 @@
 -- The lines that are left, from the play so far, do what all lines do.
-use Rattle.std.proofs.Common.{◌≡◌, ◌∙◌, Bool, true, false, None, if◌then◌else◌, subst, arith, rules}
+use Rattle.std.proofs.Common.{◌≡◌, ◌∙◌, Bool, true, false, length, None, if◌then◌else◌, subst, arith, rules}
+use Rattle.std.proofs.lemmas.Bool.Decides.{nat_tests}
 use Rattle.script_lines.specs.Lines.{lines_of}
 use Rattle.script_lines.specs.ScriptLine.{script_line}
 use Rattle.prompt_run.specs.Play.{played}
 use Rattle.prompt_run.specs.Playing.{PlaysLine}
-use Rattle.prompt_run.proofs.ScriptLemmas.{next_line, refused_line}
+use Rattle.prompt_run.proofs.ScriptLemmas.{last_line, next_line, nothing_left, refused_line}
 use Rattle.prompt_run.proofs.scripts.play_lines.Goals as goal
 
 pub returns-then-not-branch-clause-plays : goal.returns-then-not-branch-clause-plays
@@ -28,3 +29,10 @@ loop-rest-preserved c = record {
       (subst P fits (c.in_ok-play_line.ensures.plays run.0 run.1));
   frames = c.in_ok-play_line.ensures.frames ∙ c.loop-rest.invariant.frames;
 }
+
+pub returns-clause-plays : goal.returns-clause-plays
+returns-clause-plays c = λ p holds.
+    let run = c.loop-rest.invariant.so_far p holds in
+    let none : length c.loop-rest.rest.now ≡ 0 = grind (arith, nat_tests) in
+    last_line (played c.args.long (lines_of c.args.lines.now) p c.args.first) c.loop-rest.rest.now c.args.long run.0 c.loop-rest.number c.loop-rest.player run.1 run.2
+    (nothing_left c.loop-rest.rest.now none)

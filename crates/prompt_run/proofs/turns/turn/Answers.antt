@@ -1,13 +1,10 @@
 -- The drawing of a state that was settled can be shown.
-use Rattle.std.proofs.Common.{◌≡◌, ◌∙◌, false, ap, is_some, sym, subst, refl, rules}
-use Rattle.cell_grid.specs.declared.drawing.Drawing.{Drawing}
-use Rattle.cell_grid.specs.Drawable.{AllRowsDrawable}
-use Rattle.session_core.specs.Draw.{IsSettled, draw}
-use Rattle.session_core.specs.Next.{next, stepped}
+use Rattle.std.proofs.Common.{◌≡◌, ◌∙◌, false, ap, is_some, sym, subst, rules}
+use Rattle.session_core.specs.Draw.{draw}
+use Rattle.session_core.specs.Next.{next}
 use Rattle.session_core.specs.State.{State, has_ended}
 use Rattle.diff_render.specs.Frames.{WasDrawnAt}
 use Rattle.prompt_run.proofs.ShowLemmas.{drawn_at}
-use Rattle.prompt_run.proofs.DrawLemmas.{draw_drawable}
 use Rattle.prompt_run.specs.Run.{shown_at}
 use Rattle.prompt_run.specs.Turn.{ShowsState}
 use Rattle.prompt_run.proofs.TurnLemmas.{going, shows_state}
@@ -15,13 +12,8 @@ use Rattle.prompt_run.proofs.turns.turn.Goals as goal
 
 pub frame-requires-clause-cursor : goal.frame-requires-clause-cursor
 frame-requires-clause-cursor g c = λ going.
-    let settled : IsSettled c.step.new.self = subst IsSettled (sym c.in-Ok.ensures.next) ((stepped c.args.session.now c.args.event).scroll, refl) in
-    let inside = c.in-Ok-drawing.ensures.cursor settled in
+    let inside = c.in-Ok-drawing.ensures.cursor c.in-Ok.ensures.settled in
     record { in_rows = inside.in_rows; in_cols = inside.in_cols }
-
-pub frame-requires-clause-cells : goal.frame-requires-clause-cells
-frame-requires-clause-cells g c =
-    let P : Drawing → Type 0 = λ d. AllRowsDrawable d.grid in subst P (sym c.in-Ok-drawing.ensures.drawn) (draw_drawable c.step.new.self)
 
 pub returns-clause-shows : goal.returns-clause-shows
 returns-clause-shows g c =

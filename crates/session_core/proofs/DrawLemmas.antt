@@ -1,4 +1,4 @@
--- Every drawing of a state can be drawn: each cell of a text can be, and so can each row of the window.
+-- What a window shows of the message and the text can be drawn: each cell of a text can be, and so can each row of the window.
 use Rattle.std.proofs.Common.{◌≡◌, ℕ, zero, suc, ◌+◌, ◌-◌, ◌/◌, ◌%◌, ◌≤◌, ◌<◌, Bool, true, false, All, List, [], ◌∷◌, ◌++◌, map, length, fold, replicate, refl, ap, sym, ◌∙◌, arith, codes, nat_lt, nat_eq, if◌then◌else◌, Option, Some, None, unwrap_or}
 use Rattle.std.specs.Option.{is_none}
 use Rattle.std.proofs.lemmas.Bool.{false≢true, le-leb, ltb-true, eqb-true}
@@ -11,9 +11,11 @@ use Rattle.cell_grid.specs.declared.cell.Cell.TheVariants.{Lead, Tail}
 use Rattle.cell_grid.specs.Cell.{joined, narrow, spread}
 use Rattle.cell_grid.specs.TextCells.{has_lead, hex_digit, is_control, joined_last, lead_of, spelled, with_char, with_next}
 use Rattle.cell_grid.specs.Drawable.{AllDrawable, AllJoining, AllRowsDrawable, IsDrawable}
-use Rattle.prompt_settings.specs.Settings.{message_of}
-use Rattle.session_core.specs.Draw.{content_of, draw, line_of, window_of}
-use Rattle.session_core.specs.State.{State}
+use Rattle.cell_grid.specs.Size.{Extent}
+use Rattle.text_doc.specs.Document.{Document}
+use Rattle.win_view.specs.declared.scrolls.Scroll.{Scroll}
+use Rattle.win_view.specs.Views.{viewed}
+use Rattle.session_core.specs.Draw.{content_by, line_of}
 use Rattle.session_core.proofs.CellLemmas.{width-printable}
 use Rattle.win_view.proofs.CellLaws.{AllCells, HoldsOfAdded, cells-window_rows}
 use Rattle.cell_grid.proofs.ReplacementWidth.{replacement_width}
@@ -157,10 +159,11 @@ added = record {
   narrowed = λ text attrs drawable. ((replacement_width, tt), drawable.1);
 }
 
-pub draw_drawable : (s : State) → AllRowsDrawable (draw s).grid
-draw_drawable s =
-    let text : List ℕ = message_of s.settings ++ s.doc.text ++ codes " " in
-    let line : All IsDrawable (line_of (message_of s.settings) s.doc) = to_all (line_of (message_of s.settings) s.doc) (text_drawable [] text tt) in
-    from_rows (draw s).grid
-    (cells-window_rows IsDrawable (content_of s) (window_of s) s.scroll added refl
-    (All-cons (λ cells. All IsDrawable cells) (line_of (message_of s.settings) s.doc) [] line (All-nil (λ cells. All IsDrawable cells))))
+-- so can each cell of the window's view
+pub view_drawable : (message : List ℕ) (doc : Document) (window : Extent) (scroll : Scroll)
+    → AllRowsDrawable (viewed (content_by message doc) window scroll).grid
+view_drawable message doc window scroll =
+    let line : All IsDrawable (line_of message doc) = to_all (line_of message doc) (text_drawable [] (message ++ doc.text ++ codes " ") tt) in
+    from_rows (viewed (content_by message doc) window scroll).grid
+    (cells-window_rows IsDrawable (content_by message doc) window scroll added refl
+    (All-cons (λ cells. All IsDrawable cells) (line_of message doc) [] line (All-nil (λ cells. All IsDrawable cells))))
