@@ -1,5 +1,4 @@
-//! Replays a script of a prompt's events over a model of a terminal, and prints what the terminal shows and what was
-//! accepted.
+//! Replays a script over a model of a terminal, and prints what the terminal shows and what was accepted.
 #![tactic(auto)]
 
 use prompt_run::{NO_MEMORY, Status, UNKNOWN_WORDS, replay_words};
@@ -21,7 +20,7 @@ fn main(rt: HostRuntime) -> ExitCode {
     ExitCode::from(status)
 }
 
-/// The words behind the program's name. One that is not UTF-8 is unknown to the command.
+/// Returns the words behind the program's name. One that is not UTF-8 is unknown to the command.
 fn command_words<R: Env + AllocGlobal>(rt: &R) -> Result<Vec<String>, Status> {
     let args = match env::args(rt) {
         Ok(args) => args,

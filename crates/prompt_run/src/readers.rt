@@ -6,6 +6,7 @@ ghost use Rattle.prompt_run.specs.Source.{IsRead, Reads, ReadsScript};
 
 use ports::Source;
 use std::alloc::{AllocError, Global};
+use thiserror::Error;
 
 /// The most bytes of a script.
 pub const MAX_SCRIPT: usize = 67_108_864;
@@ -14,11 +15,13 @@ pub const MAX_SCRIPT: usize = 67_108_864;
 const READ_SIZE: usize = 65_536;
 
 /// Why a source was not read to its end.
-#[derive(Debug, Drop)]
+#[derive(Clone, Copy, Debug, PartialEq, Eq, Error)]
 pub enum ReadFault {
     /// A read failed.
+    #[error("a read failed")]
     Failed,
     /// There was no memory for what was read.
+    #[error("no memory for what was read")]
     NoMemory,
 }
 

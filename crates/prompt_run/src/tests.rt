@@ -1,6 +1,7 @@
 //! Runs over an outside in memory, with faults where none is expected to do harm.
 
 use super::*;
+use crate::readers::ReadFault;
 use cell_grid::Size;
 use diff_render::Shown;
 use session_core::{Config, Event, Session};
@@ -208,5 +209,32 @@ fn ends_at_a_refused_frame(rt: HostRuntime) -> Result<(), Fail> {
     let ended = turn(alloc, &mut session, &mut shown, Event::End, &mut screen);
     assert_eq!(rt; ended.err(), Some(TurnFault::Ended));
     assert_eq!(rt; screen.len(), 1);
+    Ok(())
+}
+
+#[test]
+fn tells_faults_of_turns(rt: HostRuntime) -> Result<(), Fail> {
+    let sentences = [
+        (TurnFault::Ended, "the session has ended"),
+        (TurnFault::ScreenFault, "the screen refused a frame"),
+        (TurnFault::NoMemory, "out of memory"),
+    ];
+    for (fault, sentence) in sentences {
+        let told = format!(in rt.alloc(); "{fault}")?;
+        assert_eq!(rt; told.as_str(), sentence);
+    }
+    Ok(())
+}
+
+#[test]
+fn tells_faults_of_reads(rt: HostRuntime) -> Result<(), Fail> {
+    let sentences = [
+        (ReadFault::Failed, "a read failed"),
+        (ReadFault::NoMemory, "no memory for what was read"),
+    ];
+    for (fault, sentence) in sentences {
+        let told = format!(in rt.alloc(); "{fault}")?;
+        assert_eq!(rt; told.as_str(), sentence);
+    }
     Ok(())
 }
