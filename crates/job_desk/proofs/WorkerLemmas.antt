@@ -29,12 +29,6 @@ told_none (Some told) = ap Some (sym (append-nil told))
 sent_twice : (s : SenderFields) (xs ys : List Letter) → sends_more (sends_more s xs) ys ≡ sends_more s (xs ++ ys)
 sent_twice s xs ys = ap (λ (l : List Letter). record s { sent = l }) (append_assoc s.sent xs ys)
 
--- letters without `Gone` among them keep a sender open
-pub stays_open : (s t : SenderFields) (xs : List Letter) → IsOpen s.sent → IsOpen xs → t ≡ sends_more s xs → IsOpen t.sent
-stays_open s t xs first more is =
-    let P : SenderFields → Type 0 = λ w. IsOpen w.sent in
-    subst P (sym is) (list_any-append is_gone s.sent xs ∙ (ap (λ (b : Bool). b || list_any is_gone xs) first ∙ more))
-
 -- one more request behind the others
 ran_snoc : (xs : List Share) (dead more : List ℕ) (s : Share) (failed : Bool) → Ran xs dead false → Ran (s ∷ []) more failed → Ran (xs ++ s ∷ []) (dead ++ more) failed
 ran_snoc [] dead more s failed ran last = subst (λ (d : List ℕ). Ran (s ∷ []) (d ++ more) failed) (sym ran.0) last
@@ -165,14 +159,6 @@ passes_none g = told_none g
 
 pub sends_none : (s : SenderFields) → s ≡ sends_more s []
 sends_none s = ap (λ (l : List Letter). record s { sent = l }) (sym (append-nil s.sent))
-
--- a batch by its number
-numbered_by : (r : RequestFields) (n : ℕ) (b : BatchFields) (within : Bool) → Some b ≡ cond within (Some (batch_at r n)) None → b ≡ batch_at r n
-numbered_by r n b true is = cc
-numbered_by r n b false is = cc
-
-pub numbered_batch : (r : RequestFields) (n : ℕ) (b : BatchFields) → Some b ≡ numbered r n → b ≡ batch_at r n
-numbered_batch r n b is = numbered_by r n b (nat_lt n (batch_count r)) is
 
 -- one batch more
 pub answers_more : (s t u : SenderFields) (r : RequestFields) (n : ℕ) → t ≡ sends_more s (answers r n) → u ≡ sends_more t (answer_letter r n ∷ []) → u ≡ sends_more s (answers r (n + 1))

@@ -104,8 +104,11 @@ impl MailEnd {
         requires { sender.room ≡ self.old.room }
         ensures same { self.new ≡ self.old }
         ensures start { IsStart (letters_of sender.number self.old.taken) sender.sent }
-        ensures whole { HasGone (letters_of sender.number self.old.taken) → letters_of sender.number self.old.taken ≡ sender.sent }
-        ensures input { HasInputEnd (letters_of sender.number self.old.taken) → pieces_before_end (letters_of sender.number self.old.taken) ≡ pieces_before_end sender.sent }
+        ensures whole { HasGone (letters_of sender.number self.old.taken)
+            → letters_of sender.number self.old.taken ≡ sender.sent }
+        ensures input { HasInputEnd (letters_of sender.number self.old.taken)
+            → pieces_before_end (letters_of sender.number self.old.taken)
+            ≡ pieces_before_end sender.sent }
     {
         sender.end_at(&mut self.pass);
     }

@@ -49,7 +49,8 @@ fn start_ticks<R: Threads + Wait + Copy + Send + Sync + 'static>(
     sender: MailSender,
 ) -> Result<PromisedHandle<MailSender, SameSender>, Fail>
     requires { sender.sent ≡ [] }
-    ensures { IfOk result (λ handle. (handle.promise.sender.value.room ≡ sender.room) × (handle.promise.sender.value.number ≡ sender.number)) }
+    ensures { IfOk result (λ handle. (handle.promise.sender.value.room ≡ sender.room)
+        × (handle.promise.sender.value.number ≡ sender.number)) }
 {
     let promise = SameSender::of(&sender);
     match thread::spawn_with(
@@ -71,7 +72,8 @@ fn start_input<R: Threads + Wait + Copy + Send + Sync + 'static>(
     sender: MailSender,
 ) -> Result<PromisedHandle<MailSender, SameSender>, Fail>
     requires { sender.sent ≡ [] }
-    ensures { IfOk result (λ handle. (handle.promise.sender.value.room ≡ sender.room) × (handle.promise.sender.value.number ≡ sender.number)) }
+    ensures { IfOk result (λ handle. (handle.promise.sender.value.room ≡ sender.room)
+        × (handle.promise.sender.value.number ≡ sender.number)) }
 {
     let first = Bytes::from_slice(alloc, b"a")?;
     let second = Bytes::from_slice(alloc, b"bc")?;
@@ -110,7 +112,8 @@ fn start_worker<R: Threads + Wait + Copy + Send + Sync + 'static>(
     sender: MailSender,
 ) -> Result<PromisedHandle<MailSender, SameSender>, Fail>
     requires { sender.sent ≡ [] }
-    ensures { IfOk result (λ handle. (handle.promise.sender.value.room ≡ sender.room) × (handle.promise.sender.value.number ≡ sender.number)) }
+    ensures { IfOk result (λ handle. (handle.promise.sender.value.room ≡ sender.room)
+        × (handle.promise.sender.value.number ≡ sender.number)) }
 {
     let desk = Arc::try_clone(desk)?;
     let promise = SameSender::of(&sender);
@@ -154,7 +157,7 @@ fn take_all<R: Wait>(
     Ok(mails)
 }
 
-/// A number for each letter that these threads send.
+/// Returns a number for each letter that these threads send.
 fn code(letter: &Letter) -> u64 {
     match letter {
         Letter::Tick(moment) => *moment,
@@ -169,7 +172,7 @@ fn code(letter: &Letter) -> u64 {
     }
 }
 
-/// The numbers of the letters of one sender, in the order in which they were taken.
+/// Returns the numbers of the letters of one sender, in the order in which they were taken.
 fn codes(alloc: Global, mails: &[Mail], sender: u32) -> Result<Vec<u64>, NoMemory> {
     let mut codes = Vec::new(alloc);
     for mail in mails {

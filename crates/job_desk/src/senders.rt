@@ -88,8 +88,11 @@ impl MailSender {
         ensures end { IsEnd (view end.new) }
         ensures same { taken_of (view end.new) ≡ taken_of (view end.old) }
         ensures start { IsStart (letters_of self.number (taken_of (view end.old))) self.sent }
-        ensures whole { HasGone (letters_of self.number (taken_of (view end.old))) → letters_of self.number (taken_of (view end.old)) ≡ self.sent }
-        ensures input { HasInputEnd (letters_of self.number (taken_of (view end.old))) → pieces_before_end (letters_of self.number (taken_of (view end.old))) ≡ pieces_before_end self.sent }
+        ensures whole { HasGone (letters_of self.number (taken_of (view end.old)))
+            → letters_of self.number (taken_of (view end.old)) ≡ self.sent }
+        ensures input { HasInputEnd (letters_of self.number (taken_of (view end.old)))
+            → pieces_before_end (letters_of self.number (taken_of (view end.old)))
+            ≡ pieces_before_end self.sent }
     {
         let MailSender {
             number: _,

@@ -16,7 +16,7 @@ fn doc(rt: &impl Abort, alloc: Global, words: &str) -> Result<Doc, Fail> {
     Ok(doc)
 }
 
-/// The words `a`, `ab`, `abb` and so on.
+/// Makes the words `a`, `ab`, `abb` and so on.
 fn words(alloc: Global, count: usize) -> Result<Lines, NoMemory> {
     let mut words = Lines::new(alloc);
     let mut word = Text::read_str(alloc, "a")?;
@@ -27,7 +27,7 @@ fn words(alloc: Global, count: usize) -> Result<Lines, NoMemory> {
     Ok(words)
 }
 
-/// A completer of `count` words, no history, and a validator that wants a number.
+/// Makes a completer of `count` words, no history, and a validator that wants a number.
 fn tools(alloc: Global, count: usize) -> Result<Arc<Tools>, Fail> {
     let completer = Completer::words(alloc, words(alloc, count)?, false)?;
     let tools = Tools {
@@ -38,7 +38,7 @@ fn tools(alloc: Global, count: usize) -> Result<Arc<Tools>, Fail> {
     Ok(Arc::new(alloc, tools)?)
 }
 
-/// A request for what these tools make of the text `a`.
+/// Makes a request for what these tools make of the text `a`.
 pub(crate) fn request(
     rt: &impl Abort,
     alloc: Global,
@@ -54,7 +54,7 @@ pub(crate) fn request(
     })
 }
 
-/// The number of the request that this one replaced.
+/// Returns the number of the request that this one replaced.
 fn replaced(posted: &Posted) -> Option<u64> {
     match posted {
         Posted::Replaced(old) => Some(old.id),
@@ -62,7 +62,7 @@ fn replaced(posted: &Posted) -> Option<u64> {
     }
 }
 
-/// The number of a request that was refused.
+/// Returns the number of a request that was refused.
 fn refused(posted: &Posted) -> Option<u64> {
     match posted {
         Posted::Refused(request) => Some(request.id),
@@ -70,7 +70,7 @@ fn refused(posted: &Posted) -> Option<u64> {
     }
 }
 
-/// The number of a request.
+/// Returns the number of a request.
 fn number(request: &Option<Request>) -> Option<u64> {
     match request {
         Some(request) => Some(request.id),
@@ -82,6 +82,7 @@ fn number(request: &Option<Request>) -> Option<u64> {
 fn desk_by_hand(rt: HostRuntime) -> Result<(), Fail> {
     let alloc = rt.alloc();
     let mut desk = DeskState::new();
+    assert!(rt; desk.is_idle());
     assert_eq!(rt; number(&desk.take()), None);
     // each post: its number, what it replaced, whether it was refused, and the totals behind it
     let posts = [
@@ -95,6 +96,7 @@ fn desk_by_hand(rt: HostRuntime) -> Result<(), Fail> {
         assert_eq!(rt; replaced(&posted), old, "post of {id}");
         assert_eq!(rt; refused(&posted), same, "post of {id}");
         assert_eq!(rt; desk.totals(), totals, "post of {id}");
+        assert!(rt; !desk.is_idle(), "post of {id}");
     }
     assert_eq!(rt;
         (desk.live(3), desk.live(4), desk.live(5)),
@@ -118,8 +120,9 @@ fn closed_desk(rt: HostRuntime) -> Result<(), Fail> {
     let _ = desk.post(request(&rt, rt.alloc(), 9, Kind::Check, 0)?);
     desk.close();
     assert_eq!(rt; (desk.closed(), desk.live(9)), (true, false));
-    // what was in the slot can still be taken
+    // what was in the slot can still be taken, and nobody waits at a desk that is closed
     assert_eq!(rt; number(&desk.take()), Some(9));
+    assert!(rt; !desk.is_idle());
     assert_eq!(rt; desk.totals(), (1, 1, 0));
     Ok(())
 }

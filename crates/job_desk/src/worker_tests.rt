@@ -26,7 +26,7 @@ fn shown(batch: &Batch) -> Shown {
     (batch.request().id, batch.number(), count, batch.last())
 }
 
-/// The sender of the worker that makes completions, and the end of its mailbox.
+/// Makes the sender of the worker that makes completions, and the end of its mailbox.
 fn sender_and_end(alloc: Global) -> Result<(MailSender, MailEnd), NoMemory>
     ensures { IfOk result (λ ends. IsOpen ends.0.sent) }
 {
@@ -76,8 +76,8 @@ impl Gate for CountingGate {
     }
 }
 
-/// A post that gives requests for 70 words, for a verdict and for 70 words, and says of the last one that it is dead once
-/// its first batch was sent.
+/// Makes a post that gives requests for 70 words, for a verdict and for 70 words, and says of the last one that it is dead
+/// once its first batch was sent.
 fn planned(rt: &impl Abort, alloc: Global) -> Result<MemoryPost, Fail> {
     let mut requests = Vec::new(alloc);
     requests.push(request(rt, alloc, 4, Kind::Complete, 70)?)?;
@@ -203,7 +203,7 @@ fn start_worker<R: Threads + Wait + Copy + Drop + Send + Sync + 'static>(
     }
 }
 
-/// A barrier that was neither reached nor released.
+/// Makes a barrier that was neither reached nor released.
 fn closed_barrier(alloc: Global) -> Result<Arc<Barrier>, NoMemory> {
     let state = Hold {
         reached: false,

@@ -126,7 +126,8 @@ fn send_next<R: Wait>(rt: &R, answer: &mut Answer, mail: &mut MailSender) -> Res
     requires left { answer.old.given < batch_count answer.old.request }
     requires open { IsOpen mail.old.sent }
     ensures last { IfOk result (λ last. last ≡ is_last answer.old.request answer.old.given) }
-    ensures sent { OnOk result (mail.new ≡ sends_more mail.old (answer_letter answer.old.request answer.old.given ∷ [])) }
+    ensures sent { OnOk result (mail.new
+        ≡ sends_more mail.old (answer_letter answer.old.request answer.old.given ∷ [])) }
     ensures answer { OnOk result (answer.new ≡ after_batch answer.old) }
     ensures unsent { OnErr result (mail.new ≡ mail.old) }
     ensures open { IsOpen mail.new.sent }

@@ -2,8 +2,9 @@
 use Rattle.std.proofs.Common.{◌≡◌, ℕ, ◌+◌, Bool, true, false, List, [], ◌∷◌, length, ◌&&◌, ◌==◌, Option, Some, None, if◌then◌else◌, refl, ap, sym, ◌∙◌, subst, arith}
 use Rattle.std.proofs.Math.Dec.{eqb-suc-zero}
 use Rattle.script_lines.specs.declared.script_line.ScriptLine.{ScriptLine}
-use Rattle.script_lines.specs.Lines.{lines_of, onto_first}
+use Rattle.script_lines.specs.Lines.{script_lines}
 use Rattle.script_lines.specs.ScriptLine.{script_line}
+use Rattle.script_lines.proofs.LineLemmas.{has_line}
 use Rattle.prompt_run.specs.Given.{Given}
 use Rattle.prompt_run.specs.Play.{Play, Played, begun, line_in, played, went}
 use Rattle.prompt_run.specs.Playing.{Holds, PlaysLine, SetsLine}
@@ -13,24 +14,12 @@ use Rattle.prompt_run.specs.declared.players.Player.{Player}
 
 -- what a line says before the bytes behind it
 line_before : (long past : Bool) (line behind : List ℕ) → past ≡ (long && (length behind == 0))
-    → (if past then None else script_line line) ≡ line_in long line (lines_of behind)
+    → (if past then None else script_line line) ≡ line_in long line (script_lines behind)
 line_before false past line behind is = ap (λ b. if b then None else script_line line) is
 line_before true past line [] is = ap (λ b. if b then None else script_line line) is
 line_before true past line (byte ∷ bytes) is =
     ap (λ b. if b then None else script_line line) is ∙ ap (λ b. if b then None else script_line line) (eqb-suc-zero (length bytes))
-    ∙ sym (more (byte ∷ bytes) (some_lines byte bytes))
-  where
-    more : (rest : List ℕ) → ((first : List ℕ) × ((others : List (List ℕ)) × (lines_of rest ≡ first ∷ others))) → line_in true line (lines_of rest) ≡ script_line line
-    more rest some = ap (line_in true line) some.1.1
-
-    first_line : (byte : ℕ) (lines : List (List ℕ)) → (first : List ℕ) × ((others : List (List ℕ)) × (onto_first byte lines ≡ first ∷ others))
-    first_line byte [] = (byte ∷ [], ([], refl))
-    first_line byte (line ∷ lines) = (byte ∷ line, (lines, refl))
-
-    some_lines : (byte : ℕ) (bytes : List ℕ) → (first : List ℕ) × ((others : List (List ℕ)) × (lines_of (byte ∷ bytes) ≡ first ∷ others))
-    some_lines byte bytes =
-        let P : Bool → Type 0 = λ b. (first : List ℕ) × ((others : List (List ℕ)) × ((if b then [] ∷ lines_of bytes else onto_first byte (lines_of bytes)) ≡ first ∷ others)) in
-        elim (byte == 10) as P [ true ↦ ([], (lines_of bytes, refl)) | false ↦ first_line byte (lines_of bytes) ]
+    ∙ sym (ap (line_in true line) (has_line byte bytes).is)
 
 pub nothing_left : (bytes : List ℕ) → length bytes ≡ 0 → bytes ≡ []
 nothing_left [] none = refl
@@ -40,31 +29,31 @@ nothing_left (byte ∷ bytes) none = absurd (omega arith)
 
 -- a line that sets something
 pub next_setting : (start : Played) (long past : Bool) (rest line behind : List ℕ) (old new : Given) (number : ℕ)
-    → start ≡ configured long (lines_of rest) old number → lines_of rest ≡ line ∷ lines_of behind → past ≡ (long && (length behind == 0))
-    → SetsLine true old (if past then None else script_line line) new → start ≡ configured long (lines_of behind) new (number + 1)
+    → start ≡ configured long (script_lines rest) old number → script_lines rest ≡ line ∷ script_lines behind → past ≡ (long && (length behind == 0))
+    → SetsLine true old (if past then None else script_line line) new → start ≡ configured long (script_lines behind) new (number + 1)
 next_setting start long past rest line behind old new number so_far cut is sets =
-    let second : Played = played long (line ∷ lines_of behind) (begun old) number in
+    let second : Played = played long (line ∷ script_lines behind) (begun old) number in
     so_far ∙ ap (λ ls. configured long ls old number) cut
-    ∙ ap (λ said. set_or_begun (given_by old said) (λ more. configured long (lines_of behind) more (number + 1)) second) (sym (line_before long past line behind is))
-    ∙ ap (λ found. set_or_begun found (λ more. configured long (lines_of behind) more (number + 1)) second) sets
+    ∙ ap (λ said. set_or_begun (given_by old said) (λ more. configured long (script_lines behind) more (number + 1)) second) (sym (line_before long past line behind is))
+    ∙ ap (λ found. set_or_begun found (λ more. configured long (script_lines behind) more (number + 1)) second) sets
 
 -- a line that does not
 pub last_setting : (start : Played) (long past : Bool) (rest line behind : List ℕ) (old new : Given) (number : ℕ)
-    → start ≡ configured long (lines_of rest) old number → lines_of rest ≡ line ∷ lines_of behind → past ≡ (long && (length behind == 0))
-    → SetsLine false old (if past then None else script_line line) new → start ≡ played long (lines_of rest) (begun new) number
+    → start ≡ configured long (script_lines rest) old number → script_lines rest ≡ line ∷ script_lines behind → past ≡ (long && (length behind == 0))
+    → SetsLine false old (if past then None else script_line line) new → start ≡ played long (script_lines rest) (begun new) number
 last_setting start long past rest line behind old new number so_far cut is sets =
-    let second : Played = played long (line ∷ lines_of behind) (begun old) number in
+    let second : Played = played long (line ∷ script_lines behind) (begun old) number in
     so_far ∙ ap (λ ls. configured long ls old number) cut
-    ∙ ap (λ said. set_or_begun (given_by old said) (λ more. configured long (lines_of behind) more (number + 1)) second) (sym (line_before long past line behind is))
-    ∙ ap (λ found. set_or_begun found (λ more. configured long (lines_of behind) more (number + 1)) second) sets.0
+    ∙ ap (λ said. set_or_begun (given_by old said) (λ more. configured long (script_lines behind) more (number + 1)) second) (sym (line_before long past line behind is))
+    ∙ ap (λ found. set_or_begun found (λ more. configured long (script_lines behind) more (number + 1)) second) sets.0
     ∙ ap (λ ls. played long ls (begun old) number) (sym cut)
-    ∙ ap (λ s. played long (lines_of rest) (begun s) number) (sym sets.1)
+    ∙ ap (λ s. played long (script_lines rest) (begun s) number) (sym sets.1)
 
 -- no line is left
-pub no_setting : (start : Played) (long : Bool) (rest : List ℕ) (given : Given) (number : ℕ) → start ≡ configured long (lines_of rest) given number → rest ≡ []
-    → start ≡ played long (lines_of rest) (begun given) number
+pub no_setting : (start : Played) (long : Bool) (rest : List ℕ) (given : Given) (number : ℕ) → start ≡ configured long (script_lines rest) given number → rest ≡ []
+    → start ≡ played long (script_lines rest) (begun given) number
 no_setting start long rest given number so_far none =
-    so_far ∙ ap (λ bytes. configured long (lines_of bytes) given number) none ∙ ap (λ bytes. played long (lines_of bytes) (begun given) number) (sym none)
+    so_far ∙ ap (λ bytes. configured long (script_lines bytes) given number) none ∙ ap (λ bytes. played long (script_lines bytes) (begun given) number) (sym none)
 
 -- ---- the second part
 
@@ -75,27 +64,27 @@ plays_said p q said line player is holds goes = (q, holds, λ number rest. ap (�
 
 -- a line that is played
 pub next_line : (start : Played) (rest line behind : List ℕ) (long past : Bool) (q : Play) (number : ℕ) (player : Player)
-    → start ≡ played long (lines_of rest) q number → lines_of rest ≡ line ∷ lines_of behind → past ≡ (long && (length behind == 0))
+    → start ≡ played long (script_lines rest) q number → script_lines rest ≡ line ∷ script_lines behind → past ≡ (long && (length behind == 0))
     → PlaysLine true q (if past then None else script_line line) player
-    → (p : Play) × Holds player p × (start ≡ played long (lines_of behind) p (number + 1))
+    → (p : Play) × Holds player p × (start ≡ played long (script_lines behind) p (number + 1))
 next_line start rest line behind long past q number player so_far cut is plays =
     let P : Option ScriptLine → Type 0 = λ said. PlaysLine true q said player in
-    let these : PlaysLine true q (line_in long line (lines_of behind)) player = subst P (line_before long past line behind is) plays in
-    (these.0, these.1, so_far ∙ ap (λ ls. played long ls q number) cut ∙ these.2 number (λ p. played long (lines_of behind) p (number + 1)))
+    let these : PlaysLine true q (line_in long line (script_lines behind)) player = subst P (line_before long past line behind is) plays in
+    (these.0, these.1, so_far ∙ ap (λ ls. played long ls q number) cut ∙ these.2 number (λ p. played long (script_lines behind) p (number + 1)))
 
 -- a line that is refused
 pub refused_line : (start : Played) (rest line behind : List ℕ) (long past : Bool) (q : Play) (number : ℕ) (player : Player)
-    → start ≡ played long (lines_of rest) q number → lines_of rest ≡ line ∷ lines_of behind → past ≡ (long && (length behind == 0))
+    → start ≡ played long (script_lines rest) q number → script_lines rest ≡ line ∷ script_lines behind → past ≡ (long && (length behind == 0))
     → PlaysLine false q (if past then None else script_line line) player → (p : Play) × Holds player p × (start ≡ (p, Some number))
 refused_line start rest line behind long past q number player so_far cut is plays =
     let P : Option ScriptLine → Type 0 = λ said. PlaysLine false q said player in
-    let these : PlaysLine false q (line_in long line (lines_of behind)) player = subst P (line_before long past line behind is) plays in
-    (q, these.0, so_far ∙ ap (λ ls. played long ls q number) cut ∙ these.1 number (λ p. played long (lines_of behind) p (number + 1)))
+    let these : PlaysLine false q (line_in long line (script_lines behind)) player = subst P (line_before long past line behind is) plays in
+    (q, these.0, so_far ∙ ap (λ ls. played long ls q number) cut ∙ these.1 number (λ p. played long (script_lines behind) p (number + 1)))
 
 -- no line is left
-pub last_line : (start : Played) (rest : List ℕ) (long : Bool) (q : Play) (number : ℕ) (player : Player) → Holds player q → start ≡ played long (lines_of rest) q number
+pub last_line : (start : Played) (rest : List ℕ) (long : Bool) (q : Play) (number : ℕ) (player : Player) → Holds player q → start ≡ played long (script_lines rest) q number
     → rest ≡ [] → (p : Play) × Holds player p × (start ≡ (p, None))
-last_line start rest long q number player holds so_far none = (q, holds, so_far ∙ ap (λ bytes. played long (lines_of bytes) q number) none)
+last_line start rest long q number player holds so_far none = (q, holds, so_far ∙ ap (λ bytes. played long (script_lines bytes) q number) none)
 
 -- ---- the whole script
 

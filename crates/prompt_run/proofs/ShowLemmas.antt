@@ -18,10 +18,6 @@ use Rattle.prompt_run.specs.Run.{base_at, same_size, shown_at, terminal_at}
 
 -- ---- resizes
 
--- a resize keeps the cursor's line
-line_kept : (t : Term) (now : Extent) → 1 ≤ now.rows → line_of (resized t now) ≡ line_of t
-line_kept t now some = omega arith
-
 base_resized : (shown : OnScreen) (t : Term) (base : ℕ) (now : Extent) → 1 ≤ now.rows → IsBaseOf shown t base
     → IsBaseOf (forgetting shown) (resized t now) (max base (resized t now).top)
 base_resized Nothing t base now some is = omega (arith, is)

@@ -5,7 +5,7 @@ use Rattle.prompt_settings.specs.Refusal.{refusal_of, with_setting}
 use Rattle.prompt_settings.specs.declared.configs.SetFault.{SetFault}
 use Rattle.script_lines.specs.declared.script_line.ScriptLine.{ScriptLine}
 use Rattle.script_lines.specs.declared.script_line.ScriptLine.TheVariants as line
-use Rattle.script_lines.specs.Lines.{lines_of}
+use Rattle.script_lines.specs.Lines.{script_lines}
 use Rattle.script_lines.specs.Spelling.{spelling}
 use Rattle.session_core.specs.declared.outcomes.Outcome.{Outcome}
 use Rattle.session_core.specs.declared.outcomes.Outcome.TheVariants.{Accepted, EndOfFile, Interrupted}
@@ -49,7 +49,7 @@ configured long (text ∷ texts) given number =
 
 -- the whole script, which is too long above 67,108,864 bytes
 abbrev pub whole_play : List ℕ → Played
-whole_play script = configured (nat_lt 67108864 (length script)) (lines_of script) nothing_given 1
+whole_play script = configured (nat_lt 67108864 (length script)) (script_lines script) nothing_given 1
 
 -- the status of a prompt that has ended
 abbrev pub status_of : Option Outcome → ℕ

@@ -1,7 +1,7 @@
 //! A script from its first line to its last, and what it prints.
 ghost use Rattle.std.specs.Prelude.{◌≡◌, ◌+◌, ◌<◌, ◌≤◌, ◌^◌, ◌++◌, ◌&&◌, ◌==◌, length, None, if◌then◌else◌, is_some, flat_map, IfOk, OnOk};
 ghost use Rattle.std.specs.List.{list_all};
-ghost use Rattle.script_lines.specs.Lines.{lines_of};
+ghost use Rattle.script_lines.specs.Lines.{script_lines};
 ghost use Rattle.script_lines.specs.ScriptLine.{script_line};
 ghost use Rattle.prompt_run.specs.Given.{nothing_given};
 ghost use Rattle.prompt_run.specs.Play.{Play, begun, is_key, played};
@@ -39,8 +39,8 @@ fn read_opening(
     script: &[u8],
     long: bool,
 ) -> Result<(Opening, &[u8], usize), NoMemory>
-    ensures configured { IfOk result (λ read. configured long (lines_of script.now) nothing_given 1
-        ≡ played long (lines_of read.1.now) (begun read.0) read.2) }
+    ensures configured { IfOk result (λ read. configured long (script_lines script.now) nothing_given 1
+        ≡ played long (script_lines read.1.now) (begun read.0) read.2) }
     ensures few { IfOk result (λ read. read.2 + length read.1.now ≤ 1 + length script.now) }
 {
     let mut opening = new_opening(alloc)?;
@@ -70,7 +70,7 @@ fn play_lines(
     requires playing { (p : Play) × Holds player.old p }
     requires few { first + length lines.now < 2 ^ 64 }
     ensures plays { IfOk result (λ refused. (p : Play) → Holds player.old p
-        → PlaysLines long (lines_of lines.now) first p refused player.new) }
+        → PlaysLines long (script_lines lines.now) first p refused player.new) }
     ensures frames { OnOk result (is_some player.new.screen.frames ≡ is_some player.old.screen.frames) }
 {
     let mut rest = lines;

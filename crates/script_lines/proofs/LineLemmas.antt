@@ -1,30 +1,57 @@
--- How the first line of a text lies in it.
-use Rattle.std.proofs.Common.{◌≡◌, ℕ, zero, suc, ◌+◌, ◌<◌, List, [], ◌∷◌, length, take, drop, get_or, ap, arith, ◌∙◌, cond, false, eqb, add-one}
-use Rattle.std.proofs.lemmas.Bool.{ne_eqb}
-use Rattle.script_lines.specs.Lines.{lines_of, onto_first}
+-- The lines of a script, line by line.
+use Rattle.std.proofs.Common.{◌≡◌, ◌==◌, ℕ, ◌<◌, List, [], ◌∷◌, length, refl, sym, ap, ◌∙◌, arith, ⊎_elim}
+use Rattle.std.specs.List.{onto_first}
+use Rattle.std.proofs.lemmas.Bool.{cases_Bool}
+use Rattle.std.proofs.lemmas.List.Splits.{slice_split-cons_yes, slice_split-cons_no}
+use Rattle.text_doc.specs.Lines.{lines_of}
+use Rattle.script_lines.specs.Lines.{ended, ended_from, script_lines}
 
--- where the first line feed stands, the first line ends, and the other lines are behind it
-cut-suc : (text : List ℕ) (at : ℕ) → at < length text → ((k : ℕ) → k < at → get_or text k 0 ≡ 10 → ⊥) → get_or text at 0 ≡ 10
-    → lines_of text ≡ take at text ∷ lines_of (drop (suc at) text)
-cut-suc [] at within before here = absurd (omega arith)
-cut-suc (byte ∷ bytes) zero within before here = ap (λ b. cond b ([] ∷ lines_of bytes) (onto_first byte (lines_of bytes))) (ap (λ n. eqb n 10) here)
-cut-suc (byte ∷ bytes) (suc at) within before here =
-    let other : eqb byte 10 ≡ false = ne_eqb byte 10 (before 0 (omega arith)) in
-    let rest : lines_of bytes ≡ take at bytes ∷ lines_of (drop (suc at) bytes) = cut-suc bytes at (omega arith) (λ k h. before (suc k) (omega arith)) here in
-    ap (λ b. cond b ([] ∷ lines_of bytes) (onto_first byte (lines_of bytes))) other ∙ ap (onto_first byte) rest
+-- there is a first line
+pub record HasFirst (lines : List (List ℕ)) : Type 0 where
+  pub first : List ℕ
+  pub others : List (List ℕ)
+  pub is : lines ≡ first ∷ others
 
-pub cut_at_feed : (text : List ℕ) (at : ℕ) → at < length text → ((k : ℕ) → k < at → get_or text k 0 ≡ 10 → ⊥) → get_or text at 0 ≡ 10
-    → lines_of text ≡ take at text ∷ lines_of (drop (at + 1) text)
-cut_at_feed text at within before here = rw add-one (cut-suc text at within before here)
+some_line : (bytes : List ℕ) → HasFirst (lines_of bytes)
+some_line [] = record { first = []; others = []; is = refl }
+some_line (byte ∷ bytes) =
+    ⊎_elim
+    (λ yes. record { first = []; others = lines_of bytes; is = slice_split-cons_yes (λ c. c == 10) byte bytes yes })
+    (λ no. let later = some_line bytes in record {
+      first = byte ∷ later.first;
+      others = later.others;
+      is = slice_split-cons_no (λ c. c == 10) byte bytes no ∙ ap (onto_first byte) later.is;
+    })
+    (cases_Bool (byte == 10))
 
--- a text without a line feed is one line
-pub one_line : (byte : ℕ) (bytes : List ℕ) → ((k : ℕ) → k < length (byte ∷ bytes) → get_or (byte ∷ bytes) k 0 ≡ 10 → ⊥) → lines_of (byte ∷ bytes) ≡ (byte ∷ bytes) ∷ []
-one_line byte [] none = ap (λ b. cond b ([] ∷ []) ((byte ∷ []) ∷ [])) (ne_eqb byte 10 (none 0 (omega arith)))
-one_line byte (next ∷ rest) none =
-    let other : eqb byte 10 ≡ false = ne_eqb byte 10 (none 0 (omega arith)) in
-    let lines : lines_of (next ∷ rest) ≡ (next ∷ rest) ∷ [] = one_line next rest (λ k h. none (suc k) (omega arith)) in
-    ap (λ b. cond b ([] ∷ lines_of (next ∷ rest)) (onto_first byte (lines_of (next ∷ rest)))) other ∙ ap (onto_first byte) lines
+-- a line that others follow ends there
+pub line_ends : (text line rest : List ℕ) → lines_of text ≡ line ∷ lines_of rest → script_lines text ≡ line ∷ script_lines rest
+line_ends text line rest cut =
+    let behind = some_line rest in
+    ap ended cut ∙ ap (ended_from line) behind.is ∙ ap (λ lines. line ∷ ended lines) (sym behind.is)
 
-pub whole_line : (text : List ℕ) → 0 < length text → ((k : ℕ) → k < length text → get_or text k 0 ≡ 10 → ⊥) → lines_of text ≡ text ∷ []
-whole_line [] some none = absurd (omega arith)
-whole_line (byte ∷ bytes) some none = one_line byte bytes none
+-- a text without a line feed is the last line
+pub line_is_last : (text : List ℕ) → 0 < length text → lines_of text ≡ text ∷ [] → script_lines text ≡ text ∷ []
+line_is_last [] some one = absurd (omega arith)
+line_is_last (byte ∷ bytes) some one = ap ended one
+
+ended_has : (byte : ℕ) (bytes : List ℕ) (lines : List (List ℕ)) → HasFirst (ended_from (byte ∷ bytes) lines)
+ended_has byte bytes [] = record { first = byte ∷ bytes; others = []; is = refl }
+ended_has byte bytes (next ∷ lines) = record { first = byte ∷ bytes; others = ended_from next lines; is = refl }
+
+-- a text that is not empty has a line
+pub has_line : (byte : ℕ) (bytes : List ℕ) → HasFirst (script_lines (byte ∷ bytes))
+has_line byte bytes =
+    let behind = some_line bytes in
+    ⊎_elim
+    (λ yes. record {
+      first = [];
+      others = script_lines bytes;
+      is = line_ends (byte ∷ bytes) [] bytes (slice_split-cons_yes (λ c. c == 10) byte bytes yes);
+    })
+    (λ no. let rest = ended_has byte behind.first behind.others in record {
+      first = rest.first;
+      others = rest.others;
+      is = ap ended (slice_split-cons_no (λ c. c == 10) byte bytes no ∙ ap (onto_first byte) behind.is) ∙ rest.is;
+    })
+    (cases_Bool (byte == 10))

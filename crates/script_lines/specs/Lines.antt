@@ -1,12 +1,22 @@
 -- What a contract sees of the lines of a script.
-use Rattle.std.specs.Prelude.{ℕ, ◌==◌, List, [], ◌∷◌, if◌then◌else◌}
+use Rattle.std.specs.Prelude.{ℕ, List, [], ◌∷◌}
+use Rattle.text_doc.specs.Lines.{lines_of}
 
--- a byte at the front of the first line
-abbrev pub onto_first : ℕ → List (List ℕ) → List (List ℕ)
-onto_first byte [] = (byte ∷ []) ∷ []
-onto_first byte (line ∷ lines) = (byte ∷ line) ∷ lines
+-- the last line, where any byte stands in it
+abbrev pub last_line : List ℕ → List (List ℕ)
+last_line [] = []
+last_line (byte ∷ bytes) = (byte ∷ bytes) ∷ []
 
--- the lines of a text: each ends with a line feed, which the last one may lack
-abbrev pub lines_of : List ℕ → List (List ℕ)
-lines_of [] = []
-lines_of (byte ∷ bytes) = if byte == 10 then [] ∷ lines_of bytes else onto_first byte (lines_of bytes)
+-- a line and those behind it, without the last one where it is empty
+abbrev pub ended_from : List ℕ → List (List ℕ) → List (List ℕ)
+ended_from line [] = last_line line
+ended_from line (next ∷ lines) = line ∷ ended_from next lines
+
+-- the lines without the last one, where it is empty
+abbrev pub ended : List (List ℕ) → List (List ℕ)
+ended [] = []
+ended (line ∷ lines) = ended_from line lines
+
+-- the lines of a script: each ends with a line feed, which the last one may lack
+abbrev pub script_lines : List ℕ → List (List ℕ)
+script_lines bytes = ended (lines_of bytes)

@@ -1,6 +1,6 @@
 use Rattle.std.proofs.Common.{◌≡◌, ◌+◌, ◌≤◌, length}
 use Rattle.prompt_run.specs.Given.{nothing_given}
-use Rattle.script_lines.specs.Lines.{lines_of}
+use Rattle.script_lines.specs.Lines.{script_lines}
 use Rattle.prompt_run.specs.Script.{configured}
 use Rattle.prompt_run.proofs.scripts.read_opening.Given as goal
 
@@ -8,7 +8,7 @@ use Rattle.prompt_run.proofs.scripts.read_opening.Given as goal
 abbrev pub invariant-loop-alloc : goal.invariant-loop-alloc
 invariant-loop-alloc l = record {
   numbered : l.number + length l.rest ≤ 1 + length l.script;
-  so_far : configured l.long (lines_of l.script) nothing_given 1 ≡ configured l.long (lines_of l.rest) l.opening l.number;
+  so_far : configured l.long (script_lines l.script) nothing_given 1 ≡ configured l.long (script_lines l.rest) l.opening l.number;
 }
 
 abbrev pub decreases-loop-alloc : goal.decreases-loop-alloc

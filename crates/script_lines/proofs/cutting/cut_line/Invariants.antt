@@ -1,6 +1,0 @@
-use Rattle.std.proofs.Common.{◌≡◌, ℕ, ◌<◌, get_or}
-use Rattle.script_lines.proofs.cutting.cut_line.Given as goal
-
--- no byte so far is a line feed
-abbrev pub invariant-loop-at : goal.invariant-loop-at
-invariant-loop-at l = (k : ℕ) → k < l.at → get_or l.text k 0 ≡ 10 → ⊥
