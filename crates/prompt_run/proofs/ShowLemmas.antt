@@ -1,16 +1,10 @@
 -- How a terminal that shows one drawing after another keeps up with the screens of a run.
-use Rattle.std.proofs.Common.{◌≡◌, ℕ, ◌+◌, ◌-◌, ◌≤◌, nat_eq, Bool, true, false, List, ◌++◌, max, length, take, refl, ap, sym, ◌∙◌, subst, arith, append_assoc, length-take, if◌then◌else◌}
-use Rattle.std.proofs.lemmas.Bool.{eqb-true}
-use Rattle.std.proofs.lemmas.List.{take-append-le, take_all}
-use Rattle.cell_grid.specs.Grid.{blank_rows}
-use Rattle.cell_grid.specs.declared.cell.Cell.{Cell}
-use Rattle.session_core.proofs.TypedLemmas.{both}
-use Rattle.cell_grid.specs.declared.drawing.Drawing.{Drawing}
-use Rattle.term_model.specs.Obeying.{forgotten, line_of}
+use Rattle.std.proofs.Common.{◌≡◌, ℕ, ◌-◌, ◌≤◌, nat_eq, Bool, true, false, max, refl, ap, ◌∙◌, subst, arith, if◌then◌else◌}
+use Rattle.std.proofs.lemmas.Bool.{and_parts, eqb-true}
+use Rattle.term_model.specs.Obeying.{forgotten}
 use Rattle.term_model.specs.Resizing.{resized}
 use Rattle.term_model.specs.Term.{Term, IsTerminal}
-use Rattle.diff_render.specs.Canvas.{top_for}
-use Rattle.diff_render.specs.Frames.{put, put_rows, Agree, Begins, IsBaseOf, WasDrawnAt, forgetting}
+use Rattle.diff_render.specs.Frames.{Agree, Begins, IsBaseOf, WasDrawnAt, forgetting}
 use Rattle.diff_render.specs.declared.shown.OnScreen.{OnScreen}
 use Rattle.diff_render.specs.declared.shown.OnScreen.TheVariants.{Nothing, Drawn, Resized}
 use Rattle.cell_grid.specs.Size.{Extent}
@@ -26,7 +20,7 @@ base_resized (Drawn drawing size) t base now some is = omega (arith, is.0, ap (�
 
 same_extent : (before now : Extent) → same_size before now ≡ true → before ≡ now
 same_extent before now same =
-    let parts : (nat_eq before.rows now.rows ≡ true) × (nat_eq before.cols now.cols ≡ true) = both (nat_eq before.rows now.rows) (nat_eq before.cols now.cols) same in
+    let parts : (nat_eq before.rows now.rows ≡ true) × (nat_eq before.cols now.cols ≡ true) = and_parts (nat_eq before.rows now.rows) (nat_eq before.cols now.cols) same in
     ap (λ n. record { rows = n; cols = before.cols }) (eqb-true before.rows now.rows parts.0) ∙ ap (λ n. record { rows = now.rows; cols = n }) (eqb-true before.cols now.cols parts.1)
 
 -- where the size changes the next frame begins with a forgotten one, and else as before

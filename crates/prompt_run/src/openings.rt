@@ -43,7 +43,8 @@ pub fn new_opening(alloc: Global) -> Result<Opening, NoMemory>
 
 /// Sets the value of a name, and tells whether it could be set. Where it could not all is as before.
 pub fn set(opening: &mut Opening, name: &str, value: Text) -> Result<bool, NoMemory>
-    ensures { IfOk result (λ sets. SetsTo sets opening.old (set_in opening.old name.now value) opening.new) }
+    ensures { IfOk result (λ sets. SetsTo sets opening.old
+        (set_in opening.old name.now value) opening.new) }
 {
     match opening.config.set(name, &value) {
         Ok(()) => {}

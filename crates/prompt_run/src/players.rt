@@ -54,7 +54,8 @@ impl Player {
     pub fn take(&mut self, event: Event) -> Result<(), NoMemory>
         requires playing { (p : Play) × Holds self.old p }
         ensures done { OnOk result ((p : Play) → Holds self.old p → Holds self.new (done p event)) }
-        ensures frames { OnOk result (is_some self.new.screen.frames ≡ is_some self.old.screen.frames) }
+        ensures frames { OnOk result (is_some self.new.screen.frames
+            ≡ is_some self.old.screen.frames) }
     {
         if self.session.ended() {
             return Ok(());
@@ -67,8 +68,10 @@ impl Player {
     /// Does one event of a prompt that goes on.
     fn run_event(&mut self, event: Event) -> Result<(), NoMemory>
         requires playing { (p : Play) × (r : Run) × HoldsAt self.old r p }
-        ensures done { OnOk result ((p : Play) → HoldsAt self.old (reopened p.run) p → Holds self.new (with_event p event)) }
-        ensures frames { OnOk result (is_some self.new.screen.frames ≡ is_some self.old.screen.frames) }
+        ensures done { OnOk result ((p : Play) → HoldsAt self.old (reopened p.run) p
+            → Holds self.new (with_event p event)) }
+        ensures frames { OnOk result (is_some self.new.screen.frames
+            ≡ is_some self.old.screen.frames) }
     {
         resize_with(&mut self.screen.terminal, self.session.size(), &event)?;
         advance(
@@ -86,8 +89,10 @@ impl Player {
     /// more lines.
     fn follow(&mut self) -> Result<(), NoMemory>
         requires playing { (p : Play) × Holds self.old p }
-        ensures followed { OnOk result ((p : Play) → Holds self.old p → Holds self.new (followed (lines_left p) p)) }
-        ensures frames { OnOk result (is_some self.new.screen.frames ≡ is_some self.old.screen.frames) }
+        ensures followed { OnOk result ((p : Play) → Holds self.old p
+            → Holds self.new (followed (lines_left p) p)) }
+        ensures frames { OnOk result (is_some self.new.screen.frames
+            ≡ is_some self.old.screen.frames) }
     {
         let mut left = self.repeat.saturating_sub(self.answers.len());
         while left > 0 {
@@ -111,8 +116,10 @@ impl Player {
     fn begin_next(&mut self) -> Result<(), NoMemory>
         requires playing { (p : Play) × Holds self.old p }
         requires accepted { IsTrue (is_accepted self.old.session.outcome) }
-        ensures next { OnOk result ((p : Play) → Holds self.old p → Holds self.new (with_event p Event.Start)) }
-        ensures frames { OnOk result (is_some self.new.screen.frames ≡ is_some self.old.screen.frames) }
+        ensures next { OnOk result ((p : Play) → Holds self.old p
+            → Holds self.new (with_event p Event.Start)) }
+        ensures frames { OnOk result (is_some self.new.screen.frames
+            ≡ is_some self.old.screen.frames) }
     {
         self.session.again()?;
         self.run_event(Event::Start)?;
@@ -121,7 +128,8 @@ impl Player {
 
     /// Puts a report of the terminal's screen behind the reports so far.
     pub fn report(&mut self) -> Result<(), NoMemory>
-        ensures reporting { OnOk result ((p : Play) → Holds self.old p → Holds self.new (reporting p)) }
+        ensures reporting { OnOk result ((p : Play) → Holds self.old p
+            → Holds self.new (reporting p)) }
         ensures frames { self.new.screen.frames ≡ self.old.screen.frames }
     {
         write_screen(&mut self.reports, &self.screen.terminal)?;
@@ -181,7 +189,8 @@ fn size_of(config: &Config) -> Size
 
 /// Resizes the terminal where the event brings another size than this one.
 fn resize_with(terminal: &mut Terminal, size: Size, event: &Event) -> Result<(), NoMemory>
-    ensures resized { OnOk result (terminal.new ≡ terminal_at size (size_after event.now size) terminal.old) }
+    ensures resized { OnOk result (terminal.new
+        ≡ terminal_at size (size_after event.now size) terminal.old) }
     ensures kept { OnOk result (IsTerminal terminal.new) }
 {
     if let Event::Resize(new) = event {
@@ -211,9 +220,12 @@ fn advance(
 ) -> Result<(), NoMemory>
     requires drawn { MayTurn session.old shown.old }
     ensures next { OnOk result (session.new ≡ next session.old event) }
-    ensures shows { OnOk result ((frame : List ℕ) × Obeys screen.old.terminal frame screen.new.terminal × Keeps screen.old.frames frame screen.new.frames
+    ensures shows { OnOk result ((frame : List ℕ)
+        × Obeys screen.old.terminal frame screen.new.terminal
+        × Keeps screen.old.frames frame screen.new.frames
         × ShowsState (shown_at session.old.size session.new.size shown.old) session.new frame) }
-    ensures shown { OnOk result (shown.new ≡ screen_after (is_some session.new.outcome) (draw session.new) session.new.size) }
+    ensures shown { OnOk result (shown.new
+        ≡ screen_after (is_some session.new.outcome) (draw session.new) session.new.size) }
     ensures rows { OnOk result (1 ≤ session.new.size.rows) }
     ensures going { OnOk result (has_ended session.old ≡ false) }
 {

@@ -39,9 +39,11 @@ impl From<AllocError> for ReadFault {
 #[tactic(auto, using(crate::proofs::SourceLemmas::reads_script))]
 /// Reads the source to its end, or to the first byte behind the most bytes of a script.
 pub fn read_script<R: Source>(alloc: Global, source: &mut R) -> Result<Vec<u8>, ReadFault>
-    ensures script { IfOk result (λ script. ReadsScript (R.supply source.old).left (R.supply source.new).left script.items) }
+    ensures script { IfOk result (λ script. ReadsScript (R.supply source.old).left
+        (R.supply source.new).left script.items) }
     ensures later { (R.supply source.old).faults ≤ (R.supply source.new).faults }
-    ensures failed { result ≡ Err ReadFault.Failed → Rose (R.supply source.old).faults (R.supply source.new).faults }
+    ensures failed { result ≡ Err ReadFault.Failed
+        → Rose (R.supply source.old).faults (R.supply source.new).faults }
 {
     let mut script = Vec::new(alloc);
     let mut buffer = new_buffer(alloc, READ_SIZE)?;
@@ -58,11 +60,13 @@ fn read_all<R: Source>(
 ) -> Result<(), ReadFault>
     requires room { 0 < length buffer.old }
     requires empty { script.old.items ≡ [] }
-    ensures bytes { OnOk result (Consumes (R.supply source.old).left (R.supply source.new).left script.new.items) }
+    ensures bytes { OnOk result (Consumes (R.supply source.old).left (R.supply source.new).left
+        script.new.items) }
     ensures read { OnOk result (IsRead (R.supply source.new).left script.new.items) }
     ensures few { OnOk result (length script.new.items ≤ 67108865) }
     ensures later { (R.supply source.old).faults ≤ (R.supply source.new).faults }
-    ensures failed { result ≡ Err ReadFault.Failed → Rose (R.supply source.old).faults (R.supply source.new).faults }
+    ensures failed { result ≡ Err ReadFault.Failed
+        → Rose (R.supply source.old).faults (R.supply source.new).faults }
 {
     for _ in 0..=MAX_SCRIPT {
         let room = buffer.len().min(MAX_SCRIPT + 1 - script.len());
@@ -91,10 +95,14 @@ fn read_once<R: Source>(
 ) -> Result<bool, ReadFault>
     requires room { 0 < length buffer.old }
     ensures later { (R.supply source.old).faults ≤ (R.supply source.new).faults }
-    ensures failed { result ≡ Err ReadFault.Failed → Rose (R.supply source.old).faults (R.supply source.new).faults }
-    ensures bytes { OnOk result (Reads (R.supply source.old).left (R.supply source.new).left script.old.items script.new.items) }
-    ensures few { OnOk result (length script.new.items ≤ length script.old.items + length buffer.old) }
-    ensures more { IfOk result (λ more. MatchBool more (vec_len script.old < vec_len script.new) (IsAtEnd (R.supply source.new).left)) }
+    ensures failed { result ≡ Err ReadFault.Failed
+        → Rose (R.supply source.old).faults (R.supply source.new).faults }
+    ensures bytes { OnOk result (Reads (R.supply source.old).left (R.supply source.new).left
+        script.old.items script.new.items) }
+    ensures few { OnOk result (length script.new.items
+        ≤ length script.old.items + length buffer.old) }
+    ensures more { IfOk result (λ more. MatchBool more (vec_len script.old < vec_len script.new)
+        (IsAtEnd (R.supply source.new).left)) }
 {
     let count = match source.read(buffer) {
         Ok(count) => count,

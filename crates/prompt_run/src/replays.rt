@@ -23,7 +23,8 @@ pub fn replay_words<R: Source, O: Sink>(
     out: &mut O,
 ) -> Status
     ensures words { (result ≡ UNKNOWN_WORDS) ↔ (asks_frames (map string_bytes words.now) ≡ None) }
-    ensures output { Replays (asks_frames (map string_bytes words.now)) (R.supply source.old).left (R.supply source.new).left
+    ensures output { Replays (asks_frames (map string_bytes words.now)) (R.supply source.old).left
+        (R.supply source.new).left
         (O.taken out.old) (O.taken out.new) result }
 
     // Nothing is put where nothing was played to its end.
@@ -33,7 +34,8 @@ pub fn replay_words<R: Source, O: Sink>(
     ensures no_memory { result ≡ NO_MEMORY → out.new ≡ out.old }
 
     // A fault comes only where the object that had it counted it.
-    ensures source_fault { result ≡ SOURCE_FAULT → Rose (R.supply source.old).faults (R.supply source.new).faults }
+    ensures source_fault { result ≡ SOURCE_FAULT
+        → Rose (R.supply source.old).faults (R.supply source.new).faults }
     ensures sink_fault { result ≡ SINK_FAULT → Rose (O.faults out.old) (O.faults out.new) }
     ensures source_later { (R.supply source.old).faults ≤ (R.supply source.new).faults }
     ensures sink_later { O.faults out.old ≤ O.faults out.new }

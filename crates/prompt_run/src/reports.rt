@@ -55,7 +55,8 @@ pub fn write_screen(out: &mut Vec<u8>, terminal: &Terminal) -> Result<(), NoMemo
 
 /// Returns the texts of the rows that are visible.
 fn visible_texts(alloc: Global, terminal: &Terminal) -> Result<Lines, NoMemory>
-    ensures texts { IfOk result (λ texts. texts ≡ row_texts (drop terminal.now.top terminal.now.lines)) }
+    ensures texts { IfOk result (λ texts. texts
+        ≡ row_texts (drop terminal.now.top terminal.now.lines)) }
 {
     let mut texts = Lines::new(alloc);
     for at in terminal.top()..terminal.lines() {
@@ -74,7 +75,9 @@ pub fn write_report(
     texts: &Lines,
 ) -> Result<(), NoMemory>
     ensures report { OnOk result (out.new.items
-        ≡ out.old.items ++ (heading size.rows size.cols cursor.0 cursor.1 ++ flat_map report_row (reported cursor.0 texts.now))) }
+        ≡ out.old.items
+        ++ (heading size.rows size.cols cursor.0 cursor.1
+        ++ flat_map report_row (reported cursor.0 texts.now))) }
 {
     write_heading(out, size, cursor)?;
     write_rows(out, shown_rows(texts.as_slice(), cursor.0))?;
@@ -83,7 +86,8 @@ pub fn write_report(
 
 /// Puts the first line of a report behind what was written.
 fn write_heading(out: &mut Vec<u8>, size: Size, cursor: (u32, u32)) -> Result<(), NoMemory>
-    ensures heading { OnOk result (out.new.items ≡ out.old.items ++ heading size.rows size.cols cursor.0 cursor.1) }
+    ensures heading { OnOk result (out.new.items ≡ out.old.items
+        ++ heading size.rows size.cols cursor.0 cursor.1) }
 {
     let alloc = *out.allocator();
     let (rows, cols) = (size.rows(), size.cols());

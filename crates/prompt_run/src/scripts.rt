@@ -39,7 +39,8 @@ fn read_opening(
     script: &[u8],
     long: bool,
 ) -> Result<(Opening, &[u8], usize), NoMemory>
-    ensures configured { IfOk result (λ read. configured long (script_lines script.now) nothing_given 1
+    ensures configured { IfOk result (λ read. configured long (script_lines script.now)
+        nothing_given 1
         ≡ played long (script_lines read.1.now) (begun read.0) read.2) }
     ensures few { IfOk result (λ read. read.2 + length read.1.now ≤ 1 + length script.now) }
 {
@@ -71,7 +72,8 @@ fn play_lines(
     requires few { first + length lines.now < 2 ^ 64 }
     ensures plays { IfOk result (λ refused. (p : Play) → Holds player.old p
         → PlaysLines long (script_lines lines.now) first p refused player.new) }
-    ensures frames { OnOk result (is_some player.new.screen.frames ≡ is_some player.old.screen.frames) }
+    ensures frames { OnOk result (is_some player.new.screen.frames
+        ≡ is_some player.old.screen.frames) }
 {
     let mut rest = lines;
     let mut number = first;
@@ -97,7 +99,8 @@ fn is_past(long: bool, behind: &[u8]) -> bool
 /// Sets what a line says, and answers whether it is a line that sets something. The line that passes the most bytes of a
 /// script says nothing.
 fn set_line(alloc: Global, opening: &mut Opening, line: &[u8], past: bool) -> Result<bool, NoMemory>
-    ensures sets { IfOk result (λ sets. SetsLine sets opening.old (if past then None else script_line line.now) opening.new) }
+    ensures sets { IfOk result (λ sets. SetsLine sets opening.old
+        (if past then None else script_line line.now) opening.new) }
 {
     if past {
         return Ok(false);
@@ -113,7 +116,8 @@ fn play_line(alloc: Global, player: &mut Player, line: &[u8], past: bool) -> Res
     requires playing { (p : Play) × Holds player.old p }
     ensures plays { IfOk result (λ fits. (p : Play) → Holds player.old p
         → PlaysLine fits p (if past then None else script_line line.now) player.new) }
-    ensures frames { OnOk result (is_some player.new.screen.frames ≡ is_some player.old.screen.frames) }
+    ensures frames { OnOk result (is_some player.new.screen.frames
+        ≡ is_some player.old.screen.frames) }
 {
     if past {
         return Ok(false);
@@ -173,8 +177,10 @@ fn close(player: Player, refused: Option<usize>) -> Result<(Vec<u8>, Status), No
 /// status.
 fn finish(player: &mut Player, refused: Option<usize>) -> Result<Status, NoMemory>
     requires playing { (p : Play) × Holds player.old p }
-    ensures finishes { IfOk result (λ status. (p : Play) → Holds player.old p → Finishes p refused player.new status) }
-    ensures frames { OnOk result (is_some player.new.screen.frames ≡ is_some player.old.screen.frames) }
+    ensures finishes { IfOk result (λ status. (p : Play) → Holds player.old p
+        → Finishes p refused player.new status) }
+    ensures frames { OnOk result (is_some player.new.screen.frames
+        ≡ is_some player.old.screen.frames) }
 {
     match refused {
         Some(number) => {
@@ -191,7 +197,8 @@ fn finish(player: &mut Player, refused: Option<usize>) -> Result<Status, NoMemor
 
 /// Puts the last report, the accepted lines and the status behind the reports so far.
 fn write_closing(player: &mut Player) -> Result<(), NoMemory>
-    ensures closing { OnOk result ((p : Play) → Holds player.old p → player.new.reports.items ≡ p.reports ++ closing p) }
+    ensures closing { OnOk result ((p : Play) → Holds player.old p → player.new.reports.items
+        ≡ p.reports ++ closing p) }
     ensures same { OnOk result (player.new ≡ record player.old { reports = player.new.reports }) }
 {
     let status = player.status();
@@ -203,7 +210,8 @@ fn write_closing(player: &mut Player) -> Result<(), NoMemory>
 
 /// Puts a line for each answer behind what was written.
 fn write_answers(out: &mut Vec<u8>, answers: &Lines) -> Result<(), NoMemory>
-    ensures answers { OnOk result (out.new.items ≡ out.old.items ++ flat_map answer_row answers.now) }
+    ensures answers { OnOk result (out.new.items ≡ out.old.items
+        ++ flat_map answer_row answers.now) }
 {
     for answer in answers.as_slice() {
         write_answer(out, answer)?;

@@ -57,8 +57,10 @@ pub fn turn<S: Screen>(
 
     // A terminal that showed what was shown, takes a resize with the session, and obeys the frame shows the new state. The frame
     // never asks for the cursor's place.
-    ensures shows { OnOk result (GivesState S.took screen.old screen.new session.old.size shown.old session.new) }
-    ensures shown { OnOk result (shown.new ≡ screen_after (is_some session.new.outcome) (draw session.new) session.new.size) }
+    ensures shows { OnOk result (GivesState S.took screen.old screen.new session.old.size shown.old
+        session.new) }
+    ensures shown { OnOk result (shown.new
+        ≡ screen_after (is_some session.new.outcome) (draw session.new) session.new.size) }
 
     ensures ended { (result ≡ Err TurnFault.Ended) ↔ IsTrue (has_ended session.old) }
     ensures leaves { IfErr result (λ fault. Leaves fault event session.old session.new) }
@@ -66,15 +68,20 @@ pub fn turn<S: Screen>(
     ensures kept { result ≡ Err TurnFault.Ended → shown.new ≡ shown.old }
 
     // A screen that refuses the frame is called no second time.
-    ensures screen { result ≡ Err TurnFault.ScreenFault → Rose (S.faults screen.old) (S.faults screen.new) }
+    ensures screen { result ≡ Err TurnFault.ScreenFault
+        → Rose (S.faults screen.old) (S.faults screen.new) }
     ensures missed { result ≡ Err TurnFault.ScreenFault
-        → GivesState S.missed screen.old screen.new session.old.size shown.old (next session.old event) }
+        → GivesState S.missed screen.old screen.new session.old.size shown.old
+        (next session.old event) }
     ensures refused { result ≡ Err TurnFault.ScreenFault
-        → shown.new ≡ screen_after (is_some (next session.old event).outcome) (draw (next session.old event)) (next session.old event).size }
+        → shown.new
+        ≡ screen_after (is_some (next session.old event).outcome) (draw (next session.old event))
+        (next session.old event).size }
 
     // What could not be made is not given: the screen took nothing.
     ensures nothing { result ≡ Err TurnFault.NoMemory → screen.new ≡ screen.old }
-    ensures told { result ≡ Err TurnFault.NoMemory → shown.new ≡ shown_at session.old.size session.new.size shown.old }
+    ensures told { result ≡ Err TurnFault.NoMemory → shown.new
+        ≡ shown_at session.old.size session.new.size shown.old }
     ensures later { S.faults screen.old ≤ S.faults screen.new }
     ensures again { MayTurn session.new shown.new }
 {

@@ -4,6 +4,7 @@
 mod drawings;
 mod edits;
 mod histories;
+pub mod laws;
 mod outcomes;
 mod sessions;
 #[cfg(test)]

@@ -1,7 +1,5 @@
 -- The next prompt is opened, and its first event is done.
-use Rattle.std.proofs.Common.{◌≡◌, refl}
-use Rattle.prompt_run.specs.Play.{Play}
-use Rattle.prompt_run.specs.Playing.{Holds, HoldsAt}
+use Rattle.std.proofs.Common.{refl}
 use Rattle.prompt_run.specs.Run.{reopened}
 use Rattle.prompt_run.proofs.PlayLemmas.{held_again}
 use Rattle.prompt_run.proofs.players.Player.begin_next.Goals as goal

@@ -3,7 +3,7 @@ use Rattle.std.proofs.Common.{◌≡◌, ◌-◌, ◌∙◌, true, false, ap, sy
 use Rattle.events.specs.declared.events.Event.TheVariants.{Start}
 use Rattle.session_core.specs.Next.{is_accepted}
 use Rattle.session_core.specs.State.{State}
-use Rattle.prompt_run.specs.Play.{Play, with_event}
+use Rattle.prompt_run.specs.Play.{with_event}
 use Rattle.prompt_run.specs.Playing.{Holds}
 use Rattle.prompt_run.proofs.PlayLemmas.{followed_more, followed_none}
 use Rattle.prompt_run.proofs.players.Player.follow.Goals as goal
