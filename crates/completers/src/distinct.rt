@@ -15,7 +15,8 @@ pub fn keep_distinct(
     typed: &[char],
 ) -> Result<(), NoMemory>
     requires { start ≤ length items.old.items }
-    ensures { OnOk result (items.new.items ≡ take start items.old.items ++ own_texts typed.now (drop start items.old.items)) }
+    ensures { OnOk result (items.new.items ≡ take start items.old.items
+        ++ own_texts typed.now (drop start items.old.items)) }
 {
     let listed = items.split_off(start)?;
     let choice = first_with_text(alloc, listed.as_slice(), typed)?;
@@ -30,7 +31,8 @@ fn first_with_text(
     listed: &[Completion],
     typed: &[char],
 ) -> Result<Vec<bool>, NoMemory>
-    ensures choice { IfOk result (λ choice. chosen choice.items listed.now ≡ own_texts typed.now listed.now) }
+    ensures choice { IfOk result (λ choice. chosen choice.items listed.now
+        ≡ own_texts typed.now listed.now) }
     ensures len { IfOk result (λ choice. length choice.items ≡ length listed.now) }
 {
     let mut seen = BTreeSet::new(alloc);

@@ -64,7 +64,8 @@ fn take_node(
     requires within { doc.now.cursor ≤ length doc.now.text }
     requires typed { typed.now ≡ typed_word (before_cursor doc.now) }
     requires next { IsNext doc.now node.now items.old.items starts.old.items }
-    ensures { OnOk result (Takes doc.now node.now items.old.items starts.old.items items.new.items starts.new.items) }
+    ensures { OnOk result (Takes doc.now node.now items.old.items starts.old.items
+        items.new.items starts.new.items) }
 {
     match node {
         Node::Words { words, middle } => {

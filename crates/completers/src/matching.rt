@@ -15,7 +15,8 @@ pub fn put_words(
     middle: bool,
     typed: &[char],
 ) -> Result<(), NoMemory>
-    ensures { OnOk result (items.new.items ≡ items.old.items ++ map (completion (length typed.now)) (filter (fits middle typed.now) words.now)) }
+    ensures { OnOk result (items.new.items ≡ items.old.items
+        ++ map (completion (length typed.now)) (filter (fits middle typed.now) words.now)) }
 {
     if middle {
         put_containing(alloc, items, words, typed)?;
@@ -32,7 +33,8 @@ fn put_starting(
     words: &[Text],
     typed: &[char],
 ) -> Result<(), NoMemory>
-    ensures { OnOk result (items.new.items ≡ items.old.items ++ map (completion (length typed.now)) (filter (fits false typed.now) words.now)) }
+    ensures { OnOk result (items.new.items ≡ items.old.items
+        ++ map (completion (length typed.now)) (filter (fits false typed.now) words.now)) }
 {
     for text in words {
         let word = text.as_slice();
@@ -51,7 +53,8 @@ fn put_containing(
     words: &[Text],
     typed: &[char],
 ) -> Result<(), NoMemory>
-    ensures { OnOk result (items.new.items ≡ items.old.items ++ map (completion (length typed.now)) (filter (fits true typed.now) words.now)) }
+    ensures { OnOk result (items.new.items ≡ items.old.items
+        ++ map (completion (length typed.now)) (filter (fits true typed.now) words.now)) }
 {
     let mut needle = Vec::new(alloc);
     write_marked(&mut needle, typed)?;

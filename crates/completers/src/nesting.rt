@@ -22,7 +22,8 @@ pub fn put_nested(
     typed: &[char],
 ) -> Result<(), NoMemory>
     requires { typed.now ≡ typed_word before.now }
-    ensures { OnOk result (items.new.items ≡ items.old.items ++ nested_items options.now before.now) }
+    ensures { OnOk result (items.new.items ≡ items.old.items
+        ++ nested_items options.now before.now) }
 {
     let text = trimmed(before);
     if !has_space(text) {
@@ -44,7 +45,8 @@ fn put_names(
     typed: &[char],
 ) -> Result<(), NoMemory>
     ensures { OnOk result (items.new.items ≡ items.old.items
-        ++ map (completion (length typed.now)) (filter (fits false typed.now) (map (λ option. option.name) options.now))) }
+        ++ map (completion (length typed.now)) (filter (fits false typed.now)
+        (map (λ option. option.name) options.now))) }
 {
     for option in options {
         let name = option.name.as_slice();

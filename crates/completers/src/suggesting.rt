@@ -68,7 +68,8 @@ fn last_rest<'a>(entry: &'a [char], line: &[char]) -> Option<&'a [char]>
 
 /// Returns the rest of the line `old` where it starts with `line`, or else what was found before.
 fn newer_rest<'a>(found: Option<&'a [char]>, old: &'a [char], line: &[char]) -> Option<&'a [char]>
-    ensures { option_copied result ≡ option_or (rest_of_line line.now old.entry.now) (option_copied found.entry) }
+    ensures { option_copied result
+        ≡ option_or (rest_of_line line.now old.entry.now) (option_copied found.entry) }
 {
     if old.starts_with(line) {
         Some(&old[line.len()..])

@@ -78,7 +78,8 @@ fn turned(
     requires fits { FitsScreen size drawing.now }
     requires cursor { done ≡ false → HasCursor drawing.now }
     requires cells { AllRowsDrawable drawing.now.grid }
-    ensures { IfOk result (λ bytes. Turns size.rows size.cols old.now row col drawing.now done (string_bytes bytes)) }
+    ensures { IfOk result (λ bytes. Turns size.rows size.cols old.now row col drawing.now done
+        (string_bytes bytes)) }
 {
     let blank = Grid::blank(alloc, 1, size.cols())?;
     let mut w = Writer {
@@ -163,7 +164,8 @@ fn bytes_of(
     requires fits { FitsScreen size drawing.now }
     requires cursor { done ≡ false → HasCursor drawing.now }
     requires cells { AllRowsDrawable drawing.now.grid }
-    ensures { IfOk result (λ bytes. IsFrame size screen.now drawing.now done ask (string_bytes bytes)) }
+    ensures { IfOk result (λ bytes. IsFrame size screen.now drawing.now done ask
+        (string_bytes bytes)) }
 {
     match screen {
         OnScreen::Nothing => {

@@ -13,5 +13,6 @@ pub fn frames_chain()
     ensures { (size : Extent) (screen : OnScreen) (drawing : Drawing) (done : Bool) (frame : List ℕ)
         → FitsScreen size drawing → Shows size screen drawing done frame
         → (t : Term) (base : ℕ) → Begins size screen t base
-        → Begins size (screen_after done drawing size) (obeyed_bytes t frame) (base_after done drawing base) }
+        → Begins size (screen_after done drawing size) (obeyed_bytes t frame)
+        (base_after done drawing base) }
 {}

@@ -102,7 +102,8 @@ fn erase_rest(
     requires within { end < w.old.height }
     requires below { IsBlankBelow end (take w.old.height new.now) }
     requires some { IsErasedBelow w.old.height w.old.cols end old.now (take w.old.height new.now) }
-    ensures { OnOk result (RowsSoFar w.old w.new old.now (take w.old.height new.now) 0 w.old.height) }
+    ensures { OnOk result (RowsSoFar w.old w.new old.now (take w.old.height new.now)
+        0 w.old.height) }
 {
     if end > 0 {
         let before = line_of(old, blanks, end - 1);
@@ -129,7 +130,8 @@ fn draw_all(w: &mut Writer, old: &Grid, new: &Grid, blanks: &[Cell]) -> Result<(
     requires old_rows { length old.now ≤ w.old.height }
     requires cells { AllRowsDrawable new.now }
     requires blanks { blanks.now ≡ blank_row w.old.cols }
-    ensures { OnOk result (RowsSoFar w.old w.new old.now (take w.old.height new.now) 0 w.old.height) }
+    ensures { OnOk result (RowsSoFar w.old w.new old.now (take w.old.height new.now)
+        0 w.old.height) }
 {
     prove!(old.cols() == w.cols);
     let end = blank_below(new, blanks).min(w.height);

@@ -65,7 +65,8 @@ impl Writer {
         requires placed { IsPlaced self.old }
         requires below { self.old.row ≤ to }
         requires within { to < self.old.height }
-        ensures { OnOk result (Moves self.old self.new to self.old.col self.old.pen (to - self.old.row)) }
+        ensures { OnOk result (Moves self.old self.new to self.old.col self.old.pen
+            (to - self.old.row)) }
     {
         for _line in self.row..to {
             self.down()?;
@@ -77,7 +78,8 @@ impl Writer {
     pub(crate) fn go_row(&mut self, to: u32) -> Result<(), AllocError>
         requires placed { IsPlaced self.old }
         requires within { to < self.old.height }
-        ensures { OnOk result (Moves self.old self.new to self.old.col self.old.pen (to - self.old.row + 6)) }
+        ensures { OnOk result (Moves self.old self.new to self.old.col self.old.pen
+            (to - self.old.row + 6)) }
     {
         if to < self.row {
             self.up(self.row - to)?;

@@ -31,7 +31,8 @@ pub(crate) fn push_arrow(out: &mut String, n: u32, letter: char) -> Result<(), A
 
 /// Appends a number, behind a separator where it is not the first.
 fn push_listed(out: &mut String, first: bool, n: u32) -> Result<(), AllocError>
-    ensures { OnOk result (string_bytes out.new ≡ string_bytes out.old ++ listed_by first (n ∷ [])) }
+    ensures { OnOk result (string_bytes out.new ≡ string_bytes out.old
+        ++ listed_by first (n ∷ [])) }
 {
     if !first {
         out.push(';')?;
@@ -41,7 +42,8 @@ fn push_listed(out: &mut String, first: bool, n: u32) -> Result<(), AllocError>
 
 /// Appends a number, where it is wanted, and tells whether the next one is the first.
 fn push_flag(out: &mut String, first: bool, n: u32, wanted: bool) -> Result<bool, AllocError>
-    ensures spelled { OnOk result (string_bytes out.new ≡ string_bytes out.old ++ listed_by first (flagged n wanted)) }
+    ensures spelled { OnOk result (string_bytes out.new ≡ string_bytes out.old
+        ++ listed_by first (flagged n wanted)) }
     ensures still { IfOk result (λ still. still ≡ still_first first (flagged n wanted)) }
 {
     if !wanted {
@@ -60,7 +62,8 @@ fn push_colour(
     colour: Option<Colour>,
 ) -> Result<bool, AllocError>
     requires { base ≤ 40 }
-    ensures spelled { OnOk result (string_bytes out.new ≡ string_bytes out.old ++ listed_by first (coloured base colour)) }
+    ensures spelled { OnOk result (string_bytes out.new ≡ string_bytes out.old
+        ++ listed_by first (coloured base colour)) }
     ensures still { IfOk result (λ still. still ≡ still_first first (coloured base colour)) }
     ensures bytes { OnOk result (IsByteColour colour) }
 {
@@ -87,7 +90,8 @@ fn push_colour(
 
 /// Appends the sequence that adds attributes to a pen, or that makes a pen of them alone.
 pub(crate) fn push_pen(out: &mut String, adds: bool, pen: &Attrs) -> Result<(), AllocError>
-    ensures spelled { OnOk result (string_bytes out.new ≡ string_bytes out.old ++ spelled_pen adds pen.now) }
+    ensures spelled { OnOk result (string_bytes out.new ≡ string_bytes out.old
+        ++ spelled_pen adds pen.now) }
     ensures bytes { OnOk result (IsBytePen pen.now) }
 {
     out.push_str("\x1b[")?;
@@ -115,7 +119,8 @@ pub(crate) fn push_char(out: &mut String, c: char) -> Result<(), AllocError>
 
 /// Appends characters.
 pub(crate) fn push_text(out: &mut String, text: &[char]) -> Result<(), AllocError>
-    ensures bytes { OnOk result (string_bytes out.new ≡ string_bytes out.old ++ encode_utf8_all text.now) }
+    ensures bytes { OnOk result (string_bytes out.new ≡ string_bytes out.old
+        ++ encode_utf8_all text.now) }
     ensures scalars { OnOk result (scalars text.now ≡ true) }
 {
     for c in text {

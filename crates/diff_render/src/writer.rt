@@ -32,7 +32,8 @@ impl Writer {
         requires placed { IsPlaced self.old }
         requires some { 0 < n }
         requires fits { self.old.col + n < self.old.cols }
-        ensures { OnOk result (Moves self.old self.new self.old.row (self.old.col + n) self.old.pen 6) }
+        ensures { OnOk result (Moves self.old self.new self.old.row (self.old.col + n)
+            self.old.pen 6) }
     {
         push_arrow(&mut self.out, n, 'C')?;
         self.col += n;
@@ -44,7 +45,8 @@ impl Writer {
         requires placed { IsPlaced self.old }
         requires some { 0 < n }
         requires fits { n ≤ self.old.col }
-        ensures { OnOk result (Moves self.old self.new self.old.row (self.old.col - n) self.old.pen 6) }
+        ensures { OnOk result (Moves self.old self.new self.old.row (self.old.col - n)
+            self.old.pen 6) }
     {
         push_arrow(&mut self.out, n, 'D')?;
         self.col -= n;
@@ -66,7 +68,8 @@ impl Writer {
         requires placed { IsPlaced self.old }
         requires some { 0 < n }
         requires fits { n ≤ self.old.row }
-        ensures { OnOk result (Moves self.old self.new (self.old.row - n) self.old.col self.old.pen 6) }
+        ensures { OnOk result (Moves self.old self.new (self.old.row - n) self.old.col
+            self.old.pen 6) }
     {
         push_arrow(&mut self.out, n, 'A')?;
         self.row -= n;
@@ -77,7 +80,8 @@ impl Writer {
     pub(crate) fn down(&mut self) -> Result<(), AllocError>
         requires placed { IsPlaced self.old }
         requires fits { self.old.row + 1 < self.old.height }
-        ensures { OnOk result (Moves self.old self.new (self.old.row + 1) self.old.col self.old.pen 1) }
+        ensures { OnOk result (Moves self.old self.new (self.old.row + 1) self.old.col
+            self.old.pen 1) }
     {
         self.out.push('\n')?;
         self.row += 1;

@@ -129,7 +129,8 @@ impl Buffer {
         ensures err { OnErr result (self.new ≡ self.old) }
 
         ensures changes { IfOk result (λ answer. TellsChanges answer self.old.doc self.new.doc) }
-        ensures same { IfOk result (λ answer. IsTrue (is_same answer) ↔ (self.new.doc ≡ self.old.doc)) }
+        ensures same { IfOk result (λ answer.
+            IsTrue (is_same answer) ↔ (self.new.doc ≡ self.old.doc)) }
         ensures too_long { (result ≡ Err EditFault.TooLong) ↔ MakesTooLong edit self.old.doc }
         ensures sure { TakesNoMemory edit → IsOk result }
     {

@@ -27,7 +27,8 @@ impl Buffer {
     pub fn start_menu(&mut self, items: Completions) -> Result<bool, NoMemory>
         requires { ReachWithin self.old.doc.cursor items }
         ensures answer { IfOk result (λ shown. IsTrue shown ↔ (0 < length items)) }
-        ensures ok { OnOk result (self.new ≡ record self.old { menu = menu_of self.old.doc items }) }
+        ensures ok { OnOk result (self.new
+            ≡ record self.old { menu = menu_of self.old.doc items }) }
         ensures err { OnErr result (self.new ≡ self.old) }
         ensures sure { items ≡ [] → IsOk result }
     {

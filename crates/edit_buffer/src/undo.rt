@@ -105,7 +105,8 @@ fn first_differing<'a>(pairs: &'a Snapshots, doc: &Doc) -> Option<&'a Snapshot>
 
 /// Drops the first pair with another text than the document, and those before it.
 fn pop_differing(pairs: &mut Snapshots, doc: &Doc)
-    ensures { pairs.new ≡ buffer (drop 1 (differing doc.now.text pairs.old.items)) pairs.old.capacity }
+    ensures { pairs.new
+        ≡ buffer (drop 1 (differing doc.now.text pairs.old.items)) pairs.old.capacity }
 {
     let equal = count_equal(pairs, doc);
     for _ in 0..equal {
@@ -118,7 +119,8 @@ fn pop_differing(pairs: &mut Snapshots, doc: &Doc)
 fn move_first_cursor(pairs: &mut Snapshots, doc: &Doc)
     requires { IsTrue (first_has_text doc.now.text pairs.old.items) }
     ensures { pairs.new
-        ≡ buffer (take pairs.old.capacity (with_cursor doc.now.cursor pairs.old.items)) pairs.old.capacity }
+        ≡ buffer (take pairs.old.capacity (with_cursor doc.now.cursor pairs.old.items))
+        pairs.old.capacity }
 {
     if let Some(mut first) = pairs.pop_front() {
         first.take_cursor(doc);
@@ -131,7 +133,8 @@ fn move_first_cursor(pairs: &mut Snapshots, doc: &Doc)
 fn keep(pairs: &mut Snapshots, doc: &Doc, is_kept: bool) -> Result<(), NoMemory>
     requires { IsTrue is_kept → IsTrue (first_has_text doc.now.text pairs.old.items) }
     ensures ok { OnOk result (pairs.new
-        ≡ buffer (take pairs.old.capacity (with_present doc.now pairs.old.items)) pairs.old.capacity) }
+        ≡ buffer (take pairs.old.capacity (with_present doc.now pairs.old.items))
+        pairs.old.capacity) }
     ensures err { OnErr result (pairs.new ≡ pairs.old) }
     ensures sure { IsTrue (first_has_text doc.now.text pairs.old.items) → IsOk result }
 {

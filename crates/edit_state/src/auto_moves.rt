@@ -12,7 +12,8 @@ impl EditState {
     pub fn auto_up(&mut self, count: u32) -> Result<Done, NoMemory>
         ensures state { OnOk result (self.new ≡ auto_up self.old count) }
         ensures err { OnErr result (self.new ≡ self.old) }
-        ensures done { IfOk result (λ done. Answers (stops false count self.old.buffer.menu ≡ true) done self.old self.new) }
+        ensures done { IfOk result (λ done. Answers
+            (stops false count self.old.buffer.menu ≡ true) done self.old self.new) }
     {
         match self.buffer.menu() {
             Some(_) => self.choose_beside(false, count),
@@ -25,7 +26,8 @@ impl EditState {
     pub fn auto_down(&mut self, count: u32) -> Result<Done, NoMemory>
         ensures state { OnOk result (self.new ≡ auto_down self.old count) }
         ensures err { OnErr result (self.new ≡ self.old) }
-        ensures done { IfOk result (λ done. Answers (stops true count self.old.buffer.menu ≡ true) done self.old self.new) }
+        ensures done { IfOk result (λ done. Answers
+            (stops true count self.old.buffer.menu ≡ true) done self.old self.new) }
     {
         match self.buffer.menu() {
             Some(_) => self.choose_beside(true, count),

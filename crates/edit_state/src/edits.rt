@@ -45,7 +45,8 @@ impl EditState {
     pub fn insert(&mut self, alloc: Global, chars: &[char], times: u32) -> Result<Done, NoMemory>
         ensures state { IfOk result (λ _. self.new ≡ inserted_times self.old chars.now times) }
         ensures err { OnErr result (self.new ≡ self.old) }
-        ensures done { IfOk result (λ done. Answers (IsTooLong self.old chars.now times) done self.old self.new) }
+        ensures done { IfOk result (λ done. Answers (IsTooLong self.old chars.now times)
+            done self.old self.new) }
     {
         if !fits(chars, times, MAX_LENGTH - self.buffer.doc().len()) {
             return Ok(Done::Bell);

@@ -54,7 +54,8 @@ ghost use Rattle.std.specs.Prelude.{◌&&◌, ◌||◌};
 ghost use Rattle.key_proc.specs.Facts.{is_same_fact};
 
 fn with_if(facts: Facts, fact: Fact, holds: bool) -> Facts
-    ensures { (other : Fact) → has result other ≡ ((is_same_fact other fact && holds) || has facts other) }
+    ensures { (other : Fact) → has result other
+        ≡ ((is_same_fact other fact && holds) || has facts other) }
 {
     if holds { facts.with(fact) } else { facts }
 }

@@ -56,7 +56,8 @@ impl EditState {
 
     /// Goes to the last working line.
     pub fn last_line(&mut self) -> Result<Done, NoMemory>
-        ensures state { OnOk result (self.new ≡ lines_forward self.old (length self.old.buffer.lines)) }
+        ensures state { OnOk result (self.new
+            ≡ lines_forward self.old (length self.old.buffer.lines)) }
         ensures err { OnErr result (self.new ≡ self.old) }
         ensures done { IfOk result (λ done. Answers ⊥ done self.old self.new) }
     {
@@ -73,7 +74,8 @@ impl EditState {
 // Goes to the end of the first row of another working line.
 fn go_to_first_row(buffer: &mut Buffer, line: usize) -> Result<(), NoMemory>
     requires { line < length buffer.old.lines }
-    ensures ok { OnOk result (buffer.new ≡ moved_to buffer.old line (line_end (line_of buffer.old line) 0)) }
+    ensures ok { OnOk result (buffer.new
+        ≡ moved_to buffer.old line (line_end (line_of buffer.old line) 0)) }
     ensures err { OnErr result (buffer.new ≡ buffer.old) }
 {
     buffer.goto(line, 0)?;

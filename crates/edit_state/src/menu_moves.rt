@@ -28,7 +28,8 @@ impl EditState {
     pub fn choose_beside(&mut self, forward: bool, steps: u32) -> Result<Done, NoMemory>
         ensures state { OnOk result (self.new ≡ choices forward self.old steps) }
         ensures err { OnErr result (self.new ≡ self.old) }
-        ensures done { IfOk result (λ done. Answers (stops forward steps self.old.buffer.menu ≡ true) done self.old self.new) }
+        ensures done { IfOk result (λ done. Answers
+            (stops forward steps self.old.buffer.menu ≡ true) done self.old self.new) }
     {
         let way = match self.buffer.menu() {
             None => return Ok(Done::Same),

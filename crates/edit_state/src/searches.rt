@@ -64,7 +64,8 @@ impl EditState {
         ensures state { OnOk result (self.new ≡ looked self.old search) }
         ensures origin { OnOk result (HasOrigin self.new) }
         ensures err { OnErr result (self.new ≡ self.old) }
-        ensures done { IfOk result (λ done. Answers (look_target search self.old.buffer ≡ None) done self.old self.new) }
+        ensures done { IfOk result (λ done. Answers
+            (look_target search self.old.buffer ≡ None) done self.old self.new) }
     {
         let target = look_target(&search, &self.buffer);
         go_to_spot(&mut self.buffer, target)?;

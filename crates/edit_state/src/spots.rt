@@ -118,7 +118,8 @@ fn stands_at(front: &[char], back: &[char], needle: &[char], at: usize) -> bool
 
 fn has_at(front: &[char], back: &[char], needle: &[char], at: usize) -> bool
     requires { at ≤ length front.now + length back.now }
-    ensures { IsTrue result ↔ (take (length needle.now) (drop at (front.now ++ back.now)) ≡ needle.now) }
+    ensures { IsTrue result ↔ (take (length needle.now) (drop at (front.now ++ back.now))
+        ≡ needle.now) }
 {
     if needle.len() > front.len() + back.len() - at {
         return false;

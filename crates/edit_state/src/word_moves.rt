@@ -19,7 +19,8 @@ impl EditState {
 
     /// Moves the cursor so many words forward, to the end of a word.
     pub fn move_words_ahead(&mut self, count: u32, big: bool) -> Done
-        ensures state { self.new ≡ gone_to self.old (word_ends_ahead big self.old.buffer.doc count) }
+        ensures state { self.new
+            ≡ gone_to self.old (word_ends_ahead big self.old.buffer.doc count) }
         ensures done { Answers ⊥ result self.old self.new }
     {
         let at = word_ends_ahead(self.buffer.doc(), count, big);

@@ -53,5 +53,6 @@ pub trait Inbox {
     /// Returns the next event. It may wait for it.
     fn next(&mut self) -> Result<Event, InboxFault>
         ensures heard { heard self.old result self.new }
-        ensures cause { HasFaultCause InboxFault.Failed (faults self.old) (faults self.new) result };
+        ensures cause { HasFaultCause InboxFault.Failed
+            (faults self.old) (faults self.new) result };
 }

@@ -18,7 +18,9 @@ pub trait Jobs {
     /// found no memory.
     fn want(&mut self, kind: Kind, request: Option<&Request>) -> Result<(), NoMemory>
         ensures wanted { OnOk result
-            (wanted self.new ≡ option_map (with_wanted kind (option_copied request.entry)) (wanted self.old)) }
+            (wanted self.new
+            ≡ option_map (with_wanted kind (option_copied request.entry)) (wanted self.old)) }
         ensures same { OnErr result (wanted self.new ≡ wanted self.old) }
-        ensures counted { faults self.new ≡ (if is_ok result then faults self.old else counted (faults self.old)) };
+        ensures counted { faults self.new
+            ≡ (if is_ok result then faults self.old else counted (faults self.old)) };
 }

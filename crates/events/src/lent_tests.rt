@@ -38,7 +38,8 @@ impl<'a> Inbox for LentInbox<'a> {
 
 /// Takes as many events, or fewer where a call is refused. It knows of the inbox only that it is one.
 fn take<I: Inbox>(inbox: &mut I, count: u32)
-    ensures { (answers : List (Result Event InboxFault)) × Chain I.heard inbox.old answers inbox.new }
+    ensures { (answers : List (Result Event InboxFault))
+        × Chain I.heard inbox.old answers inbox.new }
 {
     for _ in 0..count {
         if inbox.next().is_err() {

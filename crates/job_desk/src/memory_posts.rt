@@ -102,7 +102,8 @@ impl Post for MemoryPost {
 
     /// Returns the next of the requests that it was made with. `None` behind the last one.
     fn next(&mut self) -> Option<Request>
-        ensures some { IfSome result (λ request. self.new.seen ≡ after_given self.old.seen request) }
+        ensures some { IfSome result (λ request. self.new.seen
+            ≡ after_given self.old.seen request) }
         ensures none { IfNone result (IsShut self.old.seen self.new.seen) }
         ensures in_order { self.old.left ≡ option_to_list result ++ self.new.left }
         ensures end { IfNone result (self.old.left ≡ []) }

@@ -10,7 +10,8 @@ pub trait Post {
 
     /// Returns the next request, which is then the open one. `None` where no more is to be asked for.
     fn next(&mut self) -> Option<Request>
-        ensures some { IfSome result (λ request. seen self.new ≡ after_given (seen self.old) request) }
+        ensures some { IfSome result (λ request. seen self.new
+            ≡ after_given (seen self.old) request) }
         ensures none { IfNone result (IsShut (seen self.old) (seen self.new)) };
 
     /// Returns whether the open request, of this number, is live. Where it is not, none is open any more.

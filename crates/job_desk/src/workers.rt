@@ -53,7 +53,8 @@ pub fn work<P: Post, G: Gate, R: Wait>(
 ) -> Result<(), NoMemory>
     requires { IsOpen mail.old.sent }
     ensures served { Served (at_work (P.seen post.old) (G.passed gate.old) mail.old)
-        (at_work (P.seen post.new) (G.passed gate.new) mail.new) (is_err result) (last_letters (is_err result)) }
+        (at_work (P.seen post.new) (G.passed gate.new) mail.new) (is_err result)
+        (last_letters (is_err result)) }
     ensures shut { OnOk result (Rose (P.seen post.old).shut (P.seen post.new).shut) }
     ensures failed { OnErr result ((P.seen post.new).shut ≡ (P.seen post.old).shut) }
 {

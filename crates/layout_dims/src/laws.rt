@@ -38,6 +38,7 @@ pub fn a_room_has_one_division()
 
 /// Where a room is divided, it is enough for the minima of the parts.
 pub fn a_divided_room_is_enough()
-    ensures { (parts : List Numbers) (room : ℕ) (done : Bool) (sizes : List ℕ) → All IsDimension parts
+    ensures { (parts : List Numbers) (room : ℕ) (done : Bool) (sizes : List ℕ)
+        → All IsDimension parts
         → Division parts room done sizes → sum (minima_of parts) ≤ room }
 {}

@@ -54,13 +54,16 @@ pub trait Keeper {
     fn load(&mut self, alloc: Global) -> Result<Bytes, KeeperFault>
         ensures bytes { IfOk result (λ bytes. ForSome (kept self.old) (λ told. bytes ≡ told)) }
         ensures same { kept self.new ≡ kept self.old }
-        ensures cause { HasFaultCause KeeperFault.Failed (faults self.old) (faults self.new) result }
-        ensures no_memory { IsErrOf result KeeperFault.NoMemory → faults self.new ≡ faults self.old };
+        ensures cause { HasFaultCause KeeperFault.Failed
+            (faults self.old) (faults self.new) result }
+        ensures no_memory { IsErrOf result KeeperFault.NoMemory
+            → faults self.new ≡ faults self.old };
 
     /// Puts all the bytes behind those that it keeps. Where it fails it may have put some of them, from the front.
     fn append(&mut self, bytes: &[u8]) -> Result<(), KeeperFault>
         ensures bytes { Puts (kept self.old) (kept self.new) bytes.now result }
-        ensures cause { HasFaultCause KeeperFault.Failed (faults self.old) (faults self.new) result }
+        ensures cause { HasFaultCause KeeperFault.Failed
+            (faults self.old) (faults self.new) result }
         ensures no_memory { IsErrOf result KeeperFault.NoMemory
             → (kept self.new ≡ kept self.old) × (faults self.new ≡ faults self.old) };
 }
@@ -119,7 +122,8 @@ impl Keeper for MemoryKeeper {
         ensures ok { OnOk result (self.new.bytes ≡ self.old.bytes ++ bytes.now) }
         ensures err { OnErr result (self.new.bytes ≡ self.old.bytes) }
         ensures cause { HasFaultCause KeeperFault.Failed self.old.faults self.new.faults result }
-        ensures no_memory { IsErrOf result KeeperFault.NoMemory → self.new.faults ≡ self.old.faults }
+        ensures no_memory { IsErrOf result KeeperFault.NoMemory
+            → self.new.faults ≡ self.old.faults }
     {
         self.failing.admit()?;
         self.bytes.extend_from_slice(bytes)?;

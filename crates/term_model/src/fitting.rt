@@ -60,7 +60,8 @@ fn first_fitted(
 ) -> Result<Vec<CellRow>, NoMemory>
     requires wide { (from : ℕ) × AllRows from lines.now.items }
     requires within { count ≤ vec_len lines.now }
-    ensures { IfOk result (λ fitted. fitted.items ≡ map (fitted_line cols) (take count lines.now.items)) }
+    ensures { IfOk result (λ fitted. fitted.items
+        ≡ map (fitted_line cols) (take count lines.now.items)) }
 {
     let mut fitted = Vec::new(alloc);
     for line in 0..count {
@@ -72,7 +73,8 @@ fn first_fitted(
 
 /// Drops the lines behind so many, and adds blank ones where there are fewer.
 fn fit_count(lines: &mut Vec<CellRow>, count: usize, cols: usize) -> Result<(), NoMemory>
-    ensures ok { OnOk result (lines.new.items ≡ take count lines.old.items ++ blank_rows (count - length lines.old.items) cols) }
+    ensures ok { OnOk result (lines.new.items ≡ take count lines.old.items
+        ++ blank_rows (count - length lines.old.items) cols) }
     ensures err { OnErr result (lines.new.items ≡ lines.old.items) }
 {
     if count <= lines.len() {

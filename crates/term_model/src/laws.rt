@@ -21,7 +21,8 @@ pub fn obey_in_two_calls()
 
 /// Characters in UTF-8 end between characters.
 pub fn end_encoded()
-    ensures { (chars : List ℕ) → AreScalars chars → read_after between chars ≡ between → EndBetween (encode_utf8_all chars) }
+    ensures { (chars : List ℕ) → AreScalars chars → read_after between chars ≡ between
+        → EndBetween (encode_utf8_all chars) }
 {}
 
 /// Characters in UTF-8 are read back.
@@ -32,7 +33,8 @@ pub fn read_back()
 
 /// Controls are done one after the other.
 pub fn act_in_turn()
-    ensures { (t : Term) (controls more : List Control) → acted t (controls ++ more) ≡ acted (acted t controls) more }
+    ensures { (t : Term) (controls more : List Control) → acted t (controls ++ more)
+        ≡ acted (acted t controls) more }
 {}
 
 /// What obeyed some characters is a terminal.

@@ -64,7 +64,8 @@ pub(crate) fn erase_in(lines: &mut Vec<CellRow>, line: usize, at: usize, pen: At
     requires whole { IsWhole (row_at lines.old.items line) }
     requires within { at ≤ length (row_at lines.old.items line) }
     ensures { let row = row_at lines.old.items line in lines.new.items
-        ≡ slice_set lines.old.items line (laid_at row at (replicate (length row - at) (wiped pen))) }
+        ≡ slice_set lines.old.items line
+        (laid_at row at (replicate (length row - at) (wiped pen))) }
 {
     erase_from(&mut lines[line], at, pen);
 }
@@ -112,7 +113,8 @@ pub(crate) fn erase_lines(lines: &mut Vec<CellRow>, from: usize, cols: usize, pe
     requires wide { AllRows cols lines.old.items }
     requires within { from ≤ vec_len lines.old }
     ensures { lines.new.items
-        ≡ take from lines.old.items ++ replicate (vec_len lines.old - from) (replicate cols (wiped pen)) }
+        ≡ take from lines.old.items
+        ++ replicate (vec_len lines.old - from) (replicate cols (wiped pen)) }
 {
     for line in from..lines.len() {
         erase_in(lines, line, 0, pen);

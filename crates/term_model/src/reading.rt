@@ -120,7 +120,8 @@ fn first_char(bytes: &[u8]) -> Option<(char, usize)>
 fn run_len(bytes: &[u8], low: u8, high: u8) -> usize
     ensures within { result ≤ length bytes.now }
     ensures inside { list_all (is_in_range low high) (take result bytes.now) ≡ true }
-    ensures ended { result < length bytes.now → is_in_range low high (slice_index bytes.now result) ≡ false }
+    ensures ended { result < length bytes.now → is_in_range low high (slice_index bytes.now result)
+        ≡ false }
 {
     for (i, b) in bytes.iter().enumerate() {
         if *b < low || high < *b {

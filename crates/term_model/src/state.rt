@@ -214,7 +214,8 @@ impl State {
     /// Does what some bytes say.
     pub(crate) fn obey(&mut self, bytes: &[u8]) -> Result<(), NoMemory>
         requires { IsTerminal (term_of self.old) }
-        ensures obeyed { OnOk result (term_of self.new ≡ obeyed_bytes (term_of self.old) bytes.now) }
+        ensures obeyed { OnOk result (term_of self.new
+            ≡ obeyed_bytes (term_of self.old) bytes.now) }
         ensures kept { IsTerminal (term_of self.new) }
     {
         let mut rest = bytes;

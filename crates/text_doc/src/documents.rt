@@ -35,7 +35,8 @@ impl Doc {
     pub fn new(alloc: Global, text: Text, cursor: usize) -> Result<Doc, NoMemory>
         requires place { cursor ≤ length text }
         requires short { length text ≤ 32768 }
-        ensures value { IfOk result (λ doc. doc ≡ record { text = text; cursor = cursor; mark = None }) }
+        ensures value { IfOk result (λ doc. doc
+            ≡ record { text = text; cursor = cursor; mark = None }) }
         ensures document { IfOk result IsDocument }
     {
         let text = IndexedText::new(alloc, text)?;
@@ -51,7 +52,8 @@ impl Doc {
     pub fn exchange(&mut self, text: &mut Text, cursor: usize) -> Result<(), NoMemory>
         requires place { cursor ≤ length text.old }
         requires short { length text.old ≤ 32768 }
-        ensures ok { OnOk result (self.new ≡ record { text = text.old; cursor = cursor; mark = None }) }
+        ensures ok { OnOk result (self.new
+            ≡ record { text = text.old; cursor = cursor; mark = None }) }
         ensures text { OnOk result (text.new ≡ self.old.text) }
         ensures err { OnErr result (self.new ≡ self.old) }
         ensures text_stays { OnErr result (text.new ≡ text.old) }
@@ -174,7 +176,8 @@ impl Doc {
     pub fn insert(&mut self, chars: &[char]) -> Result<(), InsertFault>
         ensures ok { OnOk result (self.new ≡ inserted self.old chars.now) }
         ensures err { OnErr result (self.new ≡ self.old) }
-        ensures too_long { (result ≡ Err InsertFault.TooLong) ↔ (32768 < length self.old.text + length chars.now) }
+        ensures too_long { (result
+            ≡ Err InsertFault.TooLong) ↔ (32768 < length self.old.text + length chars.now) }
         ensures document { IsDocument self.new }
     {
         if chars.len() > MAX_LENGTH - self.text.len() {

@@ -48,7 +48,8 @@ fn nth_back(text: &IndexedText, from: usize, to: usize, c: char, nth: u32) -> Op
     requires ordered { from ≤ to }
     requires range { to ≤ length text.now }
     requires some { 0 < nth }
-    ensures place { result ≡ slice_get (reverse (passing (stands_at c text.now) from to)) (nth - 1) }
+    ensures place { result
+        ≡ slice_get (reverse (passing (stands_at c text.now) from to)) (nth - 1) }
     ensures to { IfSome result (λ at. at < to) }
     ensures within { IfSome result (λ at. at < length text.now) }
 {
