@@ -1,6 +1,7 @@
 //! Tables worked out by hand, limits, and each call that allocates once with ample memory.
-ghost use Rattle.std.specs.Prelude.{◌≡◌, ◌≤◌, length, IfOk};
+ghost use Rattle.std.specs.Prelude.{◌≡◌, ◌≤◌, length, IfOk, OnOk};
 ghost use Rattle.edit_buffer.specs.BufferState.{ReachWithin};
+ghost use Rattle.edit_state.specs.Searches.{IsSpot, origin};
 
 use crate::{Amount, Arg, Command, Done, EditState, Search, amount_in, with_digit};
 use edit_buffer::{Buffer, Ring};
@@ -288,21 +289,23 @@ fn facts(rt: HostRuntime) -> Result<(), Fail> {
     assert_facts(&rt, rt.alloc(), &mut state)
 }
 
+/// Puts an item behind the others that stands for this text in place of nothing.
+fn push_item(items: &mut Completions, text: Text) -> Result<(), NoMemory>
+    requires { ReachWithin 0 items.old }
+    ensures { OnOk result (ReachWithin 0 items.new) }
+{
+    items.push(Completion { text, back: 0 })?;
+    Ok(())
+}
+
 /// Items that put "x" and a text that leaves no room in place of nothing.
 fn items(alloc: Global) -> Result<Completions, NoMemory>
     ensures { IfOk result (ReachWithin 0) }
 {
-    let short = Text::from_chars(alloc, &['x'])?;
-    let long = Text::from_vec(vec![in alloc; 'y'; MAX_LENGTH]?);
     let mut items = Completions::new(alloc);
-    items.push(Completion {
-        text: short,
-        back: 0,
-    })?;
-    items.push(Completion {
-        text: long,
-        back: 0,
-    })?;
+    push_item(&mut items, Text::from_chars(alloc, &['x'])?)?;
+    let long = Text::from_vec(vec![in alloc; 'y'; MAX_LENGTH]?);
+    push_item(&mut items, long)?;
     Ok(items)
 }
 
@@ -344,27 +347,27 @@ fn a_choice_too_long(rt: HostRuntime) -> Result<(), Fail> {
     )
 }
 
+/// Returns a search for a needle that starts at the cursor.
+fn search_here(buffer: &Buffer, needle: Text, forward: bool) -> Search
+    ensures { IsSpot buffer.now (origin result) }
+{
+    Search {
+        needle,
+        forward,
+        line: buffer.index(),
+        at: buffer.doc().cursor(),
+    }
+}
+
 /// Looks for a needle from the present place, and tells what the look answers and where it leads.
 fn look(
-    rt: &impl Abort,
     alloc: Global,
     state: &mut EditState,
     needle: &str,
     forward: bool,
 ) -> Result<(Done, usize, usize), Fail> {
-    state.accept_search();
-    assert!(rt; state.search.is_none());
-    state.start_search(alloc, forward);
     let needle = Text::read_str(alloc, needle)?;
-    let search = match &state.search {
-        Some(search) => Search {
-            needle,
-            forward,
-            line: search.line,
-            at: search.at,
-        },
-        None => panic!(rt; "no search"),
-    };
+    let search = search_here(&state.buffer, needle, forward);
     state.search = None;
     let done = state.look(search)?;
     Ok((done, state.buffer.index(), state.buffer.doc().cursor()))
@@ -385,7 +388,7 @@ const LOOKS: [(&str, bool, Done, usize, usize); 7] = [
 fn looks(rt: HostRuntime) -> Result<(), Fail> {
     let mut state = state_with_history(&rt, rt.alloc())?;
     for (needle, forward, done, line, at) in &LOOKS {
-        let found = look(&rt, rt.alloc(), &mut state, needle, *forward)?;
+        let found = look(rt.alloc(), &mut state, needle, *forward)?;
         assert_eq!(rt; found, (*done, *line, *at), "{needle}");
     }
     Ok(())
