@@ -64,7 +64,7 @@ impl Buffer {
     }
 }
 
-// The document gets the text of `line`, and its own goes to the place of the line that was present.
+/// Gives the document the text of `line`, and its own text to the place of the line that was present.
 fn go_to_line(
     doc: &mut Doc,
     lines: &mut Vec<Text>,

@@ -57,7 +57,7 @@ pub fn insert_suggestion(state: &mut EditState, alloc: Global) -> Result<Done, N
     state.insert(alloc, text.as_slice(), 1)
 }
 
-// A line feed and the indent of the cursor's row.
+/// Returns a line feed and the indent of the cursor's row.
 fn row_opening(alloc: Global, doc: &Doc) -> Result<Text, NoMemory>
     ensures { IfOk result (λ text. text ≡ 10 ∷ indent doc.now) }
 {
@@ -68,7 +68,7 @@ fn row_opening(alloc: Global, doc: &Doc) -> Result<Text, NoMemory>
     Ok(text)
 }
 
-// How many spaces and tabs the characters start with.
+/// Returns how many spaces and tabs the characters start with.
 pub(crate) fn count_blanks(chars: &[char]) -> usize
     ensures count { result ≡ prefix_len is_blank chars.now }
     ensures within { result ≤ length chars.now }

@@ -131,7 +131,7 @@ pub fn copy_selection(state: &mut EditState) -> Result<Done, NoMemory>
     }
 }
 
-// The text of the first clip where the command repeats, else none.
+/// Returns the text of the first clip where the command repeats, else none.
 fn first_text(state: &EditState, alloc: Global, command: Command) -> Result<Text, NoMemory>
     ensures { IfOk result (λ text. text ≡ first_text command state.now) }
 {
@@ -153,7 +153,7 @@ fn repeats(state: &EditState, command: Command) -> bool
     }
 }
 
-// Deletes a range and puts this text on the ring. An empty range changes nothing.
+/// Deletes a range and puts this text on the ring. An empty range changes nothing.
 fn kill_as(state: &mut EditState, from: usize, to: usize, text: Text) -> Done
     requires ordered { from ≤ to }
     requires range { to ≤ length state.old.buffer.doc.text }

@@ -69,7 +69,7 @@ pub fn set_mark(state: &mut EditState) -> Done
     state.edit(Edit::Mark(Some(at)))
 }
 
-// Sets the mark at the cursor where none is set, and tells whether none was.
+/// Sets the mark at the cursor where none is set, and tells whether none was.
 fn mark_first(state: &mut EditState) -> bool
     ensures state { state.new ≡ marked state.old }
     ensures first { (result ≡ true) ↔ (state.old.buffer.doc.mark ≡ None) }

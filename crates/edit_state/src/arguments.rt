@@ -108,7 +108,7 @@ impl Amount {
     }
 }
 
-// The number of the digits, or a million where it is greater.
+/// Returns the number of the digits, or a million where it is greater.
 fn capped_number(digits: &[char]) -> u32
     ensures { result ≡ min 1000000 (number_of_digits digits.now) }
 {

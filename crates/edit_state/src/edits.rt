@@ -105,7 +105,7 @@ pub(crate) fn edit_plainly(buffer: &mut Buffer, edit: Edit) -> bool
     }
 }
 
-// Whether the characters find room this many times.
+/// Tells whether the characters find room this many times.
 fn fits(chars: &[char], times: u32, room: usize) -> bool
     ensures { IsTrue result ↔ (times * length chars.now ≤ room) }
 {

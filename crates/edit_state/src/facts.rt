@@ -38,7 +38,7 @@ impl EditState {
         }
     }
 
-    // Whether a suggestion can be taken.
+    /// Tells whether a suggestion can be taken.
     fn suggests(&self) -> bool
         ensures { result ≡ suggests self.now }
     {

@@ -77,7 +77,7 @@ impl EditState {
     }
 }
 
-// Where a look goes.
+/// Returns where a look goes.
 fn look_target(search: &Search, buffer: &Buffer) -> Option<Spot>
     requires { IsSpot buffer.now (origin search.now) }
     ensures target { result ≡ look_target search.now buffer.now }

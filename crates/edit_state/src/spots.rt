@@ -50,7 +50,7 @@ pub fn match_back(buffer: &Buffer, needle: &[char], spot: Spot) -> Option<Spot>
     None
 }
 
-// The spot's place in its own line, and the end in another.
+/// Returns the spot's place in its own line, and the end in another.
 fn end_in(line: usize, spot: Spot, end: usize) -> usize
     ensures { result ≡ (if line == spot.line then spot.at else end) }
 {
@@ -76,7 +76,7 @@ fn parts_of(buffer: &Buffer, line: usize) -> (&[char], &[char])
     buffer.line_parts(line)
 }
 
-// The least match from a place on in a text of two slices.
+/// Returns the least match from a place on in a text of two slices.
 fn first_in(front: &[char], back: &[char], needle: &[char], from: usize) -> Option<usize>
     requires { length front.now + length back.now ≤ 32768 }
     ensures found { result ≡ first_in needle.now (front.now ++ back.now) from }
@@ -92,7 +92,7 @@ fn first_in(front: &[char], back: &[char], needle: &[char], from: usize) -> Opti
     None
 }
 
-// The greatest match below a place in a text of two slices.
+/// Returns the greatest match below a place in a text of two slices.
 fn last_in(front: &[char], back: &[char], needle: &[char], to: usize) -> Option<usize>
     requires { length front.now + length back.now ≤ 32768 }
     ensures found { result ≡ last_in needle.now (front.now ++ back.now) to }
@@ -108,7 +108,7 @@ fn last_in(front: &[char], back: &[char], needle: &[char], to: usize) -> Option<
     None
 }
 
-// Whether the needle matches at a place of a text of two slices.
+/// Tells whether the needle matches at a place of a text of two slices.
 fn stands_at(front: &[char], back: &[char], needle: &[char], at: usize) -> bool
     requires { at ≤ length front.now + length back.now }
     ensures { result ≡ stands_at needle.now (front.now ++ back.now) at }

@@ -136,7 +136,7 @@ impl Player {
         Ok(())
     }
 
-    /// The status of the prompt, as it would be were this its end.
+    /// Returns the status of the run, as it would be were this its end.
     pub fn status(&self) -> Status
         ensures status { result ≡ status_of self.now.session.outcome }
     {

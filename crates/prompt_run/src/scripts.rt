@@ -89,7 +89,8 @@ fn play_lines(
     Ok(None)
 }
 
-/// Whether the line before these bytes passes the most bytes of a script: it is the last one of a script that is too long.
+/// Tells whether the line before these bytes passes the most bytes of a script: it is the last one of a script that is
+/// too long.
 fn is_past(long: bool, behind: &[u8]) -> bool
     ensures { result ≡ (long && (length behind.now == 0)) }
 {
@@ -141,14 +142,14 @@ fn play_line(alloc: Global, player: &mut Player, line: &[u8], past: bool) -> Res
     Ok(true)
 }
 
-/// Whether each byte is a key that is known.
+/// Tells whether each byte is a key that is known.
 fn all_keys(bytes: &[u8]) -> bool
     ensures { result ≡ list_all is_key bytes.now }
 {
     bytes.iter().all(|byte| is_known_key(*byte))
 }
 
-/// Whether the byte is printable, a delete or a carriage return.
+/// Tells whether the byte is printable, a delete or a carriage return.
 fn is_known_key(byte: u8) -> bool
     ensures { result ≡ is_key byte }
 {

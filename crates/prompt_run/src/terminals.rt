@@ -17,7 +17,7 @@ pub struct TerminalScreen {
 impl TerminalScreen {
     ghost use Rattle.std.specs.Prelude.{◌≡◌, OnOk};
 
-    /// The terminal as a screen, of which no frame failed yet.
+    /// Returns the terminal as a screen, of which no frame failed yet.
     pub fn new(terminal: Terminal, frames: Option<Bytes>) -> TerminalScreen
         ensures terminal { result.terminal ≡ terminal }
         ensures frames { result.frames ≡ frames }

@@ -7,7 +7,7 @@ ghost use Rattle.term_model.specs.Meaning.{numbers_behind};
 /// The greatest number that a parameter counts as.
 const MAX_NUMBER: u32 = 9999;
 
-/// Whether all of these are digits and separators.
+/// Tells whether all of these are digits and separators.
 pub(crate) fn is_numeric(params: &[u8]) -> bool
     ensures { result ≡ list_all is_numeric params.now }
 {
@@ -16,7 +16,7 @@ pub(crate) fn is_numeric(params: &[u8]) -> bool
         .all(|b| (b'0'..=b'9').contains(b) || *b == b';')
 }
 
-/// The first number of some digits and separators, and what stands behind its separator, if it has one.
+/// Returns the first number of some digits and separators, and what stands behind its separator, if it has one.
 pub(crate) fn first_number(params: &[u8]) -> (u32, Option<&[u8]>)
     ensures value { numbers_from 0 params.now ≡ result.0 ∷ numbers_behind result.1 }
     ensures small { result.0 ≤ 9999 }

@@ -8,7 +8,7 @@ ghost use Rattle.term_model.specs.Rendition.{styled, styled_once, styled_by, dir
 use crate::numbers::first_number;
 use cell_grid::{Attrs, Colour};
 
-/// The pen after one number by itself.
+/// Returns the pen after one number by itself.
 fn styled_once(pen: Attrs, number: u32) -> Attrs
     ensures { result ≡ styled_once pen number }
 {
@@ -40,7 +40,7 @@ fn styled_once(pen: Attrs, number: u32) -> Attrs
     }
 }
 
-/// The pen with the colour of a number, where it has one.
+/// Returns the pen with the colour of a number, where it has one.
 fn coloured(pen: Attrs, number: u32) -> Attrs
     ensures { result ≡ coloured pen number }
 {
@@ -65,7 +65,7 @@ fn coloured(pen: Attrs, number: u32) -> Attrs
     }
 }
 
-/// The direct colour of which some numbers begin with `2;r;g;b`, and what stands behind it.
+/// Returns the direct colour of which some numbers begin with `2;r;g;b`, and what stands behind it.
 fn direct_colour(params: Option<&[u8]>) -> Option<(Colour, Option<&[u8]>)>
     ensures colour { colour_in result ≡ direct_colour (numbers_behind params.entry) }
     ensures rest { IfSome result (λ x. numbers_behind x.1 ≡ drop 4 (numbers_behind params.entry)) }
@@ -80,7 +80,7 @@ fn direct_colour(params: Option<&[u8]>) -> Option<(Colour, Option<&[u8]>)>
     Some((Colour::Rgb(r as u8, g as u8, b as u8), params))
 }
 
-/// The colour that a number takes from those behind it, and what stands behind that.
+/// Returns the colour that a number takes from those behind it, and what stands behind that.
 fn colour_behind(number: u32, params: Option<&[u8]>) -> Option<(Colour, Option<&[u8]>)>
     ensures colour { colour_in result ≡ colour_behind number (numbers_behind params.entry) }
     ensures rest { IfSome result (λ x. numbers_behind x.1 ≡ drop 4 (numbers_behind params.entry)) }
@@ -91,7 +91,7 @@ fn colour_behind(number: u32, params: Option<&[u8]>) -> Option<(Colour, Option<&
     direct_colour(params)
 }
 
-/// The pen with the colour that a number takes.
+/// Returns the pen with the colour that a number takes.
 fn with_colour(pen: Attrs, number: u32, colour: Colour) -> Attrs
     ensures { result ≡ styled_by pen number (Some colour) }
 {
@@ -108,7 +108,7 @@ fn with_colour(pen: Attrs, number: u32, colour: Colour) -> Attrs
     }
 }
 
-/// The pen after all numbers of some parameters.
+/// Returns the pen after all numbers of some parameters.
 pub(crate) fn styled(pen: Attrs, params: &[u8]) -> Attrs
     ensures { result ≡ styled pen (numbers_from 0 params.now) }
 {
