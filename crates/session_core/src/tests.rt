@@ -1,8 +1,8 @@
 //! Several prompts with one history, and the sentences of faults.
-use crate::{Config, Event, Session, StepFault};
+use crate::{Config, Event, Outcome, Session, StepFault};
 use cell_grid::Size;
 use std::test::Fail;
-use text_doc::{Bytes, Lines, Text};
+use text_doc::{Bytes, Lines};
 
 #[test]
 fn tells_faults(rt: HostRuntime) -> Result<(), Fail> {
@@ -21,11 +21,10 @@ fn tells_faults(rt: HostRuntime) -> Result<(), Fail> {
 #[test]
 fn adds_entries(rt: HostRuntime) -> Result<(), Fail> {
     let size = Size::new(24, 80).expect(&rt, "a size");
-    let mut history = Lines::new(rt.alloc());
-    history.push(Text::read_str(rt.alloc(), "ab")?)?;
     let config = Config::new(rt.alloc())?;
-    let mut session = Session::new(rt.alloc(), config, history, size, 7)?;
+    let mut session = Session::new(rt.alloc(), config, Lines::new(rt.alloc()), size, 7)?;
     let cases = [
+        ("ab\r", Some(2)),
         ("ab\r", None),
         ("\r", None),
         ("abc\r", Some(3)),
@@ -39,6 +38,7 @@ fn adds_entries(rt: HostRuntime) -> Result<(), Fail> {
             "{keys:?}"
         );
         assert_eq!(rt; session.entry().map(|entry| entry.len()), added, "{keys:?}");
+        assert!(rt; matches!(session.outcome(), Some(Outcome::Accepted(_))));
         session.again()?;
         assert!(rt;
             !session.ended() && session.doc().is_empty() && session.moment() == 7,
