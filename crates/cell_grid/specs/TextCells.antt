@@ -52,9 +52,13 @@ with_next attrs control cells char =
     if is_control char then cells ++ map (λ piece. narrow piece control) (spelled char)
     else with_char cells char (unwrap_or (char_width false char) 0) attrs
 
+-- the cells with those of these characters behind them
+abbrev pub with_chars : Attrs → Attrs → List Cell → List ℕ → List Cell
+with_chars attrs control cells chars = fold (with_next attrs control) cells chars
+
 -- the cells with those of a fragment behind them
 abbrev pub with_fragment : List Cell → Fragment → List Cell
-with_fragment cells fragment = fold (with_next fragment.attrs fragment.control) cells fragment.text
+with_fragment cells fragment = with_chars fragment.attrs fragment.control cells fragment.text
 
 -- the cells of a line that is drawn from these fragments
 abbrev pub cells_of : List Fragment → List Cell

@@ -187,6 +187,24 @@ fn put_blanks_the_uncovered_halves(rt: HostRuntime) -> Result<(), Fail> {
     Ok(())
 }
 
+// The first character has no width and joins the Lead that stood there.
+#[test]
+fn pushed_characters_join_what_stands_before(rt: HostRuntime) -> Result<(), Fail> {
+    let mut row = row_of(rt.alloc(), &[("e", 1, true)])?;
+    row.push_chars(&['\u{301}', '中', '\u{1b}'], bold(), Attrs::plain())?;
+    let wanted = row_of(
+        rt.alloc(),
+        &[
+            ("e\u{301}", 1, true),
+            ("中", 2, true),
+            ("^", 1, false),
+            ("[", 1, false),
+        ],
+    )?;
+    assert!(rt; row.as_slice() == wanted.as_slice());
+    Ok(())
+}
+
 // A part of one row and two columns over the inner halves of two wide characters.
 #[test]
 fn blit_blanks_the_uncovered_halves(rt: HostRuntime) -> Result<(), Fail> {

@@ -2,7 +2,7 @@
 ghost use Rattle.std.specs.Prelude.{◌≡◌, ◌<◌, ◌≤◌, ◌++◌, IfOk, IsTrue, OnOk, false, is_none, length, map, true, unwrap_or};
 ghost use Rattle.unicode_width.specs.Width.{char_width};
 ghost use Rattle.cell_grid.specs.Cell.{IsLead, narrow};
-ghost use Rattle.cell_grid.specs.TextCells.{cells_of, hex_digit, is_control, lead_of, spelled, with_char, with_fragment, with_next};
+ghost use Rattle.cell_grid.specs.TextCells.{cells_of, hex_digit, is_control, lead_of, spelled, with_char, with_next};
 
 use crate::{Attrs, Cell, CellRow, CellText, Fragment, NoMemory};
 use std::alloc::Global;
@@ -15,18 +15,31 @@ pub fn cells_of(alloc: Global, fragments: &[Fragment]) -> Result<CellRow, NoMemo
 {
     let mut row = CellRow::new(alloc);
     for fragment in fragments {
-        push_fragment(&mut row, fragment)?;
+        row.push_chars(fragment.text.as_slice(), fragment.attrs, fragment.control)?;
     }
     Ok(row)
 }
 
-fn push_fragment(row: &mut CellRow, fragment: &Fragment) -> Result<(), NoMemory>
-    ensures { OnOk result (row.new ≡ with_fragment row.old fragment.now) }
-{
-    for c in fragment.text.as_slice() {
-        push_next(row, *c, fragment.attrs, fragment.control)?;
+impl CellRow {
+    ghost use Rattle.std.specs.Prelude.{◌≡◌, OnOk};
+    ghost use Rattle.cell_grid.specs.TextCells.{with_chars};
+
+    /// Adds the cells of these characters behind the others. A control character is spelled out
+    /// with the attributes `control`, and a character of no width joins the last Lead. Without
+    /// memory for all of them the row may have some.
+    pub fn push_chars(
+        &mut self,
+        chars: &[char],
+        attrs: Attrs,
+        control: Attrs,
+    ) -> Result<(), NoMemory>
+        ensures { OnOk result (self.new ≡ with_chars attrs control self.old chars.now) }
+    {
+        for c in chars {
+            push_next(self, *c, attrs, control)?;
+        }
+        Ok(())
     }
-    Ok(())
 }
 
 fn push_next(row: &mut CellRow, c: char, attrs: Attrs, control: Attrs) -> Result<(), NoMemory>

@@ -1,3 +1,4 @@
 pub mod States
 pub mod Pairs
 pub mod Restores
+pub mod Turning

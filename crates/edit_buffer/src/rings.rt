@@ -1,6 +1,7 @@
 //! A ring of clips, the texts that were cut or copied. A clause sees it as the list of its clips, the newest first.
-ghost use Rattle.std.specs.Prelude.{◌≡◌, ◌≤◌, [], length, slice_get, option_copied, IfOk};
-ghost use Rattle.edit_buffer.specs.Rings.{with_clip, rotated};
+ghost use Rattle.std.specs.Prelude.{◌≡◌, ◌≤◌, ◌↔◌, [], false, length, slice_get, option_copied, IfOk, IsTrue};
+ghost use Rattle.std.specs.List.{prefix_len};
+ghost use Rattle.edit_buffer.specs.Rings.{with_clip, rotated, same_clip};
 
 use circular_buffer::HeapCircularBuffer;
 use std::alloc::Global;
@@ -16,6 +17,16 @@ pub struct Clip {
     pub text: Text,
     /// Whether the text is made of whole rows.
     pub lines: bool,
+}
+
+impl Clip {
+    /// Returns whether text and kind are equal to those of `other`.
+    pub fn is_same(&self, other: &Clip) -> bool
+        ensures value { result ≡ same_clip self.now other.now }
+        ensures equal { IsTrue result ↔ (self.now ≡ other.now) }
+    {
+        self.lines == other.lines && self.text.as_slice() == other.text.as_slice()
+    }
 }
 
 /// The clips that were put last.
@@ -58,6 +69,27 @@ impl Ring {
         self.clips.front()
     }
 
+    /// Returns the clip that `rotate` would make the first.
+    pub fn second(&self) -> Option<&Clip>
+        ensures { option_copied result ≡ slice_get (rotated self.now) 0 }
+    {
+        if self.clips.len() > 1 {
+            self.clips.nth_front(1)
+        } else {
+            self.clips.front()
+        }
+    }
+
+    /// Tells whether `rotate` changes the ring: not where all clips are alike.
+    pub fn turns(&self) -> bool
+        ensures { (result ≡ false) ↔ (rotated self.now ≡ self.now) }
+    {
+        match self.clips.front() {
+            Some(first) => count_same(&self.clips, first) < self.clips.len(),
+            None => false,
+        }
+    }
+
     /// Moves the first clip to the end.
     pub fn rotate(&mut self)
         ensures { self.new ≡ rotated self.old }
@@ -66,4 +98,11 @@ impl Ring {
             self.clips.push_back(clip);
         }
     }
+}
+
+/// Counts the first clips that are the same as this one.
+fn count_same(clips: &HeapCircularBuffer<Clip>, first: &Clip) -> usize
+    ensures { result ≡ prefix_len (same_clip first.now) clips.now.items }
+{
+    clips.iter().take_while(|clip| first.is_same(clip)).count()
 }

@@ -58,12 +58,13 @@ fn assert_first(rt: &impl Abort, ring: &Ring, letter: char) {
 #[test]
 fn ring_keeps_sixty_clips(rt: HostRuntime) -> Result<(), Fail> {
     let mut ring = Ring::new(rt.alloc())?;
-    assert!(rt; ring.first().is_none());
+    assert!(rt; ring.first().is_none() && !ring.turns());
     // 61 puts, of the characters from U+0041 to U+007D
     for number in 0..61u8 {
         let text = Text::from_chars(rt.alloc(), &[char::from(b'A' + number)])?;
         ring.put(Clip { text, lines: false });
     }
+    assert!(rt; ring.turns());
     // the newest of 60 first; the first put, U+0041, is gone
     for number in 0..60u8 {
         assert_first(&rt, &ring, char::from(b'}' - number));

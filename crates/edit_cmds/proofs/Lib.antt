@@ -1,1 +1,9 @@
 mod Digits
+mod Behind
+mod Frames
+mod Rows
+mod Fitting
+mod Casing
+mod Blanks
+mod Origins
+mod Words

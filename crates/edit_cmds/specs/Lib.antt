@@ -5,3 +5,10 @@ pub mod Deleting
 pub mod Killing
 pub mod Counting
 pub mod Restoring
+pub mod Rewriting
+pub mod Pasting
+pub mod Searching
+pub mod Leaving
+pub mod Groups
+pub mod Running
+pub mod Laws

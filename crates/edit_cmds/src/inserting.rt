@@ -76,7 +76,8 @@ pub(crate) fn count_blanks(chars: &[char]) -> usize
     chars.iter().take_while(|c| is_blank(**c)).count()
 }
 
-fn is_blank(c: char) -> bool
+/// Tells whether a character is a space or a tab.
+pub(crate) fn is_blank(c: char) -> bool
     ensures { result ≡ is_blank c }
 {
     c == ' ' || c == '\t'

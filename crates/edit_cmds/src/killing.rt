@@ -144,7 +144,8 @@ fn first_text(state: &EditState, alloc: Global, command: Command) -> Result<Text
     }
 }
 
-fn repeats(state: &EditState, command: Command) -> bool
+/// Tells whether the command before was this one.
+pub(crate) fn repeats(state: &EditState, command: Command) -> bool
     ensures { result ≡ repeats command state.now }
 {
     match state.previous {

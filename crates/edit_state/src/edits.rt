@@ -56,6 +56,18 @@ impl EditState {
         Ok(done_of(changed))
     }
 
+    /// Puts characters in place of as many. A cursor among them or at an end of them then stands behind them.
+    pub fn replace(&mut self, from: usize, text: Text) -> Result<Done, NoMemory>
+        requires { from + length text ≤ length self.old.buffer.doc.text }
+        ensures state { OnOk result (self.new
+            ≡ edited_state self.old (Edit.Replace from (from + length text) text)) }
+        ensures err { OnErr result (self.new ≡ self.old) }
+        ensures done { IfOk result (λ done. Answers ⊥ done self.old self.new) }
+    {
+        let changed = replace_text(&mut self.buffer, from, text)?;
+        Ok(done_of(changed))
+    }
+
     /// Deletes a range and puts a clip on the ring.
     pub fn kill(&mut self, from: usize, to: usize, clip: Clip) -> Done
         requires some { from < to }
@@ -124,6 +136,22 @@ fn insert_text(buffer: &mut Buffer, text: Text) -> Result<bool, NoMemory>
 {
     let _index = buffer.index();
     match buffer.apply(Edit::Insert(text)) {
+        Ok(answer) => Ok(!answer.is_same()),
+        Err(_) => Err(AllocError),
+    }
+}
+
+// Puts characters in place of as many.
+fn replace_text(buffer: &mut Buffer, from: usize, text: Text) -> Result<bool, NoMemory>
+    requires { from + length text ≤ length buffer.old.doc.text }
+    ensures buffer { OnOk result (buffer.new
+        ≡ applied buffer.old (Edit.Replace from (from + length text) text)) }
+    ensures err { OnErr result (buffer.new ≡ buffer.old) }
+    ensures changed { IfOk result (λ changed. (changed ≡ false) ↔ (buffer.new ≡ buffer.old)) }
+{
+    let _index = buffer.index();
+    let to = from + text.len();
+    match buffer.apply(Edit::Replace { from, to, text }) {
         Ok(answer) => Ok(!answer.is_same()),
         Err(_) => Err(AllocError),
     }

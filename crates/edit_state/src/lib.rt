@@ -22,6 +22,7 @@ mod word_moves;
 pub use arguments::{Amount, Arg, MAX_DIGITS, amount_in, with_digit};
 pub use char_moves::{place_ahead, place_back, place_by_chars};
 pub use commands::Command;
+pub use searches::go_to_spot;
 pub use sequences::NoMemory;
 pub use spots::{Spot, match_ahead, match_back};
 pub use states::{Done, EditState, Search};

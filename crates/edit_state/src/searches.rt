@@ -96,7 +96,8 @@ fn look_target(search: &Search, buffer: &Buffer) -> Option<Spot>
     }
 }
 
-fn go_to_spot(buffer: &mut Buffer, spot: Option<Spot>) -> Result<(), NoMemory>
+/// Goes to a place of a working line, if there is one.
+pub fn go_to_spot(buffer: &mut Buffer, spot: Option<Spot>) -> Result<(), NoMemory>
     requires { ForSome spot (IsSpot buffer.old) }
     ensures ok { OnOk result (buffer.new ≡ gone_to_spot buffer.old spot) }
     ensures err { OnErr result (buffer.new ≡ buffer.old) }

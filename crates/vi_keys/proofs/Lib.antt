@@ -1,0 +1,10 @@
+pub mod Numbers
+pub mod Steps
+pub mod Bones
+pub mod Autos
+pub mod Answered
+pub mod Leaving
+pub mod Resting
+pub mod Restoring
+pub mod Digits
+pub mod Results

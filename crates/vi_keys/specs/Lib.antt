@@ -1,0 +1,16 @@
+pub mod ViNumbers
+pub mod ViTable
+pub mod ViFacts
+pub mod Deeds
+pub mod Runs
+pub mod Reaches
+pub mod Spans
+pub mod Acts
+pub mod Plans
+pub mod Answering
+pub mod Operating
+pub mod Moving
+pub mod Changing
+pub mod Planning
+pub mod Running
+pub mod Laws
