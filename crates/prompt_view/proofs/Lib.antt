@@ -1,0 +1,9 @@
+pub mod Counts
+pub mod Cursors
+pub mod DrawableCells
+pub mod DrawableScenes
+pub mod DrawableWindows
+pub mod Heights
+pub mod MenuRows
+pub mod Placing
+pub mod WholeLines

@@ -1,0 +1,6 @@
+pub mod Bars
+pub mod Drawing
+pub mod Floats
+pub mod Lines
+pub mod Rooms
+pub mod Scene

@@ -1,0 +1,4 @@
+pub mod CellCounts
+pub mod LineCuts
+pub mod LineCells
+pub mod PlacesWithin

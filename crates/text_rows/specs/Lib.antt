@@ -1,0 +1,3 @@
+pub mod DrawnText
+pub mod Lines
+pub mod Places
