@@ -1,7 +1,14 @@
+pub mod CauseLemmas
+pub mod CloseLemmas
+pub mod CourseLemmas
+pub mod EntryLemmas
+pub mod InboxLemmas
 pub mod PlayLemmas
+pub mod RunLemmas
 pub mod ScriptLemmas
 pub mod ShowLemmas
 pub mod SourceLemmas
 pub mod TrimLemmas
 pub mod TurnLemmas
 pub mod WindowLemmas
+pub mod WishLemmas

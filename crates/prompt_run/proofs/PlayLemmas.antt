@@ -1,41 +1,37 @@
 -- How a player keeps up with a play.
-use Rattle.std.proofs.Common.{◌≡◌, ℕ, ◌+◌, ◌<◌, ◌≤◌, zero, suc, add-one, Bool, true, false, List, [], ◌∷◌, ◌++◌, length, ◌||◌, is_some, Option, Some, None, if◌then◌else◌, refl, ap, sym, ◌∙◌, subst, arith, append-nil, append_assoc}
+use Rattle.std.proofs.Common.{◌≡◌, ℕ, ◌+◌, ◌<◌, ◌≤◌, zero, suc, add-one, Bool, true, false, List, [], ◌∷◌, ◌++◌, is_some, Option, Some, None, if◌then◌else◌, refl, ap, sym, ◌∙◌, subst, arith, append-nil, append_assoc}
 use Rattle.events.specs.declared.events.Event.{Event}
 use Rattle.events.specs.declared.events.Event.TheVariants.{Start}
 use Rattle.std.proofs.lemmas.Bool.{false≢true}
 use Rattle.std.specs.List.{concat}
-use Rattle.cell_grid.specs.Size.{Extent}
-use Rattle.cell_grid.specs.declared.drawing.Drawing.{Drawing}
-use Rattle.diff_render.specs.Frames.{put, Agree, Begins, screen_after, WasDrawnAt}
-use Rattle.diff_render.specs.declared.shown.OnScreen.{OnScreen}
+use Rattle.diff_render.specs.Frames.{Agree, Begins, screen_after, WasDrawnAt}
 use Rattle.diff_render.specs.declared.shown.OnScreen.TheVariants.{Nothing}
-use Rattle.term_model.specs.Obeying.{acted, forgotten, line_of, obeyed_bytes}
+use Rattle.term_model.specs.Obeying.{acted, line_of, obeyed_bytes}
 use Rattle.term_model.specs.Term.{Term, IsTerminal}
-use Rattle.session_core.proofs.StateLemmas.{again_size, draw_high, next_size}
+use Rattle.session_core.proofs.StateLemmas.{again_size, next_size}
 use Rattle.session_core.specs.Draw.{draw}
 use Rattle.session_core.specs.Next.{again, is_accepted, next, size_after}
 use Rattle.session_core.specs.State.{State, has_ended}
-use Rattle.session_core.specs.declared.outcomes.Outcome.{Outcome}
 use Rattle.diff_render.specs.Canvas.{Spells, reads}
 use Rattle.term_model.proofs.ActedLemmas.{acted-append}
 use Rattle.prompt_run.specs.FramesShown.{FramesShow, obeyed_each, obeying}
 use Rattle.prompt_run.specs.Play.{Play, accepted, done, done_by, followed, lines_left, with_event}
 use Rattle.prompt_run.specs.Playing.{Finishes, Holds, HoldsAt, KeepsFrames}
 use Rattle.prompt_run.specs.Replay.{Closes, IsFramesOf}
-use Rattle.prompt_run.specs.Run.{Run, base_at, ran_on, reopened, reopened_if, shown_at, terminal_at}
+use Rattle.prompt_run.specs.Run.{Run, ran_on, reopened, reopened_if, shown_at, terminal_at}
 use Rattle.prompt_run.specs.Script.{final_by}
+use Rattle.prompt_run.specs.Showing.{ShowsRun}
 use Rattle.prompt_run.specs.Terminals.{Keeps, Obeys}
 use Rattle.prompt_run.specs.Turn.{ShowsState}
 use Rattle.prompt_run.specs.declared.players.Player.{Player}
 use Rattle.prompt_run.specs.declared.terminals.TerminalScreen.{TerminalScreen}
 use Rattle.prompt_run.proofs.TurnLemmas.{drawn_behind}
-use Rattle.diff_render.proofs.Chaining.{begins_again, put-agree}
-use Rattle.prompt_run.proofs.ShowLemmas.{agree_at, base_agree, begins_at}
+use Rattle.prompt_run.proofs.RunLemmas.{accepted_some, no_outcome, not_accepted, shows_event}
 
 -- ---- frames
 
 -- the frame of one more event
-frames-more : (t : Term) (r : Run) (events : List Event) (frames : List (List ℕ)) (end : Term) (last : Run) (event : Event) (frame : List ℕ)
+pub frames-more : (t : Term) (r : Run) (events : List Event) (frames : List (List ℕ)) (end : Term) (last : Run) (event : Event) (frame : List ℕ)
     → FramesShow t r events frames end last → Spells frame (reads frame) → Agree (obeying end last event frame) (ran_on last event).screen
     → FramesShow t r (events ++ event ∷ []) (frames ++ frame ∷ []) (obeying end last event frame) (ran_on last event)
 frames-more t r [] [] end last event frame show ends agree =
@@ -119,34 +115,6 @@ pub record Advances (old : Player) (event : Event) (new : Player) : Type 0 where
   pub answers : new.answers ≡ old.answers ++ accepted new.session.outcome
   pub reports : new.reports.items ≡ old.reports.items
 
-goes_on : (a b : Bool) → (a || b) ≡ false → b ≡ false
-goes_on true b e = absurd (false≢true (sym e))
-goes_on false b e = e
-
--- what is on the screen begins the next frame where the prompt goes on
-begins_by : (over : Bool) → over ≡ false → (size : Extent) (drawing : Drawing) (before : OnScreen) (x t : Term) (base : ℕ) (shown : OnScreen)
-    → Begins size before x base → IsTerminal t → length drawing.grid ≤ size.rows → shown ≡ screen_after over drawing size → Agree t (put x base drawing over)
-    → Begins size shown t base
-begins_by true e size drawing before x t base shown begins terminal high kept seen = absurd (false≢true (sym e))
-begins_by false e size drawing before x t base shown begins terminal high kept seen =
-    let P : OnScreen → Type 0 = λ screen. Begins size screen t base in
-    subst P (sym kept) (begins_again size before x t base drawing begins terminal high seen)
-
--- and where it has ended, nothing is shown, and a next frame begins on the cursor's line
-ends_by : (over : Bool) → over ≡ true → (size : Extent) (drawing : Drawing) (before : OnScreen) (x t screen : Term) (base : ℕ) (shown : OnScreen)
-    → Begins size before x base → IsTerminal t → shown ≡ screen_after over drawing size → Agree t (put x base drawing over) → Agree t screen
-    → (shown ≡ Nothing) × Begins size Nothing t (line_of screen)
-ends_by false e size drawing before x t screen base shown begins terminal kept seen agree = absurd (false≢true e)
-ends_by true e size drawing before x t screen base shown begins terminal kept seen agree = (
-  kept,
-  record {
-    terminal = terminal;
-    tall = ap (λ (y : Term). y.rows) seen ∙ begins.tall;
-    wide = ap (λ (y : Term). y.cols) seen ∙ begins.wide;
-    base_line = ap line_of (sym agree);
-  },
-)
-
 -- so the player holds the play with that event
 pub held_event : (old new : Player) (p : Play) (event : Event) → HoldsAt old (reopened p.run) p → Advances old event new → Holds new (with_event p event)
 held_event old new p event holds advances =
@@ -154,46 +122,34 @@ held_event old new p event holds advances =
     let S : State = next r.state event in
     let on : has_ended r.state ≡ false = ap has_ended (sym holds.state) ∙ advances.going in
     let is : new.session ≡ S = advances.state ∙ ap (λ s. next s event) holds.state in
-    let over : Bool = is_some S.outcome in
     let t : Term = old.screen.terminal in
     let u : Term = terminal_at r.state.size S.size t in
     let sized : advances.sized ≡ u =
     advances.resize ∙ ap (λ s. terminal_at s.size (size_after event s.size) t) holds.state ∙ ap (λ e. terminal_at r.state.size e t) (sym (next_size r.state event)) in
-    let base : ℕ = base_at r.state.size S.size r.screen r.base in
     let rows : 1 ≤ S.size.rows = subst (λ (s : State). 1 ≤ s.size.rows) is advances.rows in
-    let begins : Begins S.size (shown_at r.state.size S.size old.shown) u base =
-    subst (λ b. Begins S.size (shown_at r.state.size S.size old.shown) u b) (base_agree r.state.size S.size t r.screen r.base holds.agrees)
-    (begins_at r.state.size S.size old.shown t r.base rows (holds.begins on) (subst IsTerminal sized advances.terminal)) in
     let shows : ShowsState (shown_at r.state.size S.size old.shown) S advances.frame =
     subst (λ s. ShowsState (shown_at r.state.size s.size old.shown) s advances.frame) is
     (subst (λ (s : State). ShowsState (shown_at s.size new.session.size old.shown) new.session advances.frame) holds.state advances.shows) in
     let obeyed_u : new.screen.terminal ≡ obeyed_bytes u advances.frame = advances.obeys.obeyed ∙ ap (λ x. obeyed_bytes x advances.frame) sized in
-    let seen : Agree new.screen.terminal (put u base (draw S) over) =
-    subst (λ x. Agree x (put u base (draw S) over)) (sym obeyed_u) (shows.shows u base begins) in
-    let agrees : Agree new.screen.terminal (ran_on p.run event).screen =
-    seen ∙ ap forgotten (put-agree u (terminal_at r.state.size S.size r.screen) base (draw S) over (agree_at r.state.size S.size t r.screen holds.agrees)) in
-    let kept : new.shown ≡ screen_after over (draw S) S.size = advances.shown ∙ ap (λ s. screen_after (is_some s.outcome) (draw s) s.size) is in
+    let kept : new.shown ≡ screen_after (is_some S.outcome) (draw S) S.size = advances.shown ∙ ap (λ s. screen_after (is_some s.outcome) (draw s) s.size) is in
+    let before : ShowsRun old.shown t r = record { terminal = (holds.begins on).terminal; agrees = holds.agrees; begins = holds.begins; ended = holds.ended } in
+    let behind : ShowsRun new.shown (obeyed_bytes u advances.frame) (ran_on p.run event) =
+    shows_event r event old.shown new.shown t advances.frame before on (subst IsTerminal sized advances.terminal) rows shows kept in
+    let now : ShowsRun new.shown new.screen.terminal (ran_on p.run event) = subst (λ x. ShowsRun new.shown x (ran_on p.run event)) (sym obeyed_u) behind in
     record {
       state = is;
-      agrees = agrees;
-      begins = λ still. begins_by over (goes_on S.failed over still) S.size (draw S) (shown_at r.state.size S.size old.shown) u new.screen.terminal base new.shown begins
-          advances.obeys.terminal (draw_high S) kept seen;
-      ended = λ done. ends_by over done S.size (draw S) (shown_at r.state.size S.size old.shown) u new.screen.terminal (ran_on p.run event).screen base new.shown begins
-          advances.obeys.terminal kept seen agrees;
+      agrees = now.agrees;
+      begins = now.begins;
+      ended = now.ended;
       drawn = λ still. drawn_behind S new.shown kept;
       repeat = advances.repeat ∙ holds.repeat;
       answers = advances.answers ∙ ap (λ lines. lines ++ accepted new.session.outcome) holds.answers ∙ ap (λ s. p.answers ++ accepted s.outcome) is;
       reports = advances.reports ∙ holds.reports;
       frames = keeps_more old.screen.frames new.screen.frames p event t new.screen.terminal advances.frame shows.ends holds.frames advances.keeps
-          obeyed_u agrees;
+          obeyed_u now.agrees;
     }
 
 -- ---- the prompts of a run
-
-not_accepted : (a : Bool) (outcome : Option Outcome) → (a || is_some outcome) ≡ false → is_accepted outcome ≡ false
-not_accepted a None on = refl
-not_accepted true (Some outcome) on = absurd (false≢true (sym on))
-not_accepted false (Some outcome) on = absurd (false≢true (sym on))
 
 -- a prompt that goes on is not opened again
 pub goes_on_at : (player : Player) (p : Play) → Holds player p → has_ended player.session ≡ false → HoldsAt player (reopened p.run) p
@@ -201,14 +157,6 @@ goes_on_at player p holds going =
     let on : is_accepted p.run.state.outcome ≡ false = not_accepted p.run.state.failed p.run.state.outcome (ap has_ended (sym holds.state) ∙ going) in
     let P : Bool → Type 0 = λ b. HoldsAt player (reopened_if b p.run) p in
     subst P (sym on) holds
-
-accepted_some : (outcome : Option Outcome) → is_accepted outcome ≡ true → is_some outcome ≡ true
-accepted_some None is = is
-accepted_some (Some outcome) is = refl
-
-no_outcome : (s : State) → is_some (again s).outcome ≡ false
-unfolding again
-no_outcome s = refl
 
 -- behind an accepted line the next prompt is opened
 pub held_again : (old new : Player) (p : Play) → Holds old p → is_accepted old.session.outcome ≡ true → new.session ≡ again old.session → new.shown ≡ old.shown

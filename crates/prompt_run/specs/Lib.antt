@@ -1,11 +1,17 @@
+pub mod Course
+pub mod Faults
 pub mod FramesShown
 pub mod Given
 pub mod Play
 pub mod Playing
+pub mod Prompts
 pub mod Replay
 pub mod Report
 pub mod Run
+pub mod Runs
 pub mod Script
+pub mod Showing
 pub mod Source
 pub mod Terminals
 pub mod Turn
+pub mod Wishes

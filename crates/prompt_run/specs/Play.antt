@@ -1,28 +1,30 @@
 -- What playing a script does: the run of its events, the lines that it accepts, and the reports that it asks for.
-use Rattle.std.specs.Prelude.{ℕ, ◌+◌, ◌-◌, zero, suc, length, Bool, true, false, ◌||◌, List, [], ◌∷◌, ◌++◌, Option, Some, None, unwrap_or, if◌then◌else◌}
-use Rattle.std.specs.List.{list_all}
+use Rattle.std.specs.Prelude.{ℕ, ◌+◌, ◌-◌, zero, suc, length, Bool, true, false, List, [], ◌∷◌, ◌++◌, Option, Some, None, unwrap_or, if◌then◌else◌}
 use Rattle.cell_grid.specs.Size.{Extent}
 use Rattle.events.specs.declared.events.Event.{Event}
 use Rattle.events.specs.declared.events.Event.TheVariants as event
+use Rattle.line_history.specs.History.{entry_bytes}
 use Rattle.prompt_settings.specs.Settings.{Settings, repeat_of}
 use Rattle.script_lines.specs.declared.script_line.ScriptLine.{ScriptLine}
 use Rattle.script_lines.specs.declared.script_line.ScriptLine.TheVariants as line
 use Rattle.script_lines.specs.ScriptLine.{script_line}
 use Rattle.session_core.specs.declared.outcomes.Outcome.{Outcome}
 use Rattle.session_core.specs.declared.outcomes.Outcome.TheVariants.{Accepted, EndOfFile, Interrupted}
-use Rattle.session_core.specs.Keys.{is_printable, is_erase, is_accept}
+use Rattle.session_core.specs.History.{entry_of}
 use Rattle.session_core.specs.Next.{is_accepted}
-use Rattle.session_core.specs.State.{has_ended, opened}
+use Rattle.session_core.specs.State.{State, has_ended, opened}
 use Rattle.term_model.specs.Term.{start_of}
 use Rattle.prompt_run.specs.Given.{Given}
 use Rattle.prompt_run.specs.Report.{report_of}
 use Rattle.prompt_run.specs.Run.{Run, ran_on, waiting_run}
 
--- the run before its first event and now, the accepted lines, the reports so far, and the events so far
+-- the run before its first event and now, the accepted lines, the bytes of the entries that these add to a history file, the
+-- reports so far, and the events so far
 pub record Play : Type 0 where
   pub first : Run
   pub run : Run
   pub answers : List (List ℕ)
+  pub kept : List ℕ
   pub reports : List ℕ
   pub events : List Event
 
@@ -33,11 +35,21 @@ accepted (Some (Accepted text)) = text ∷ []
 accepted (Some EndOfFile) = []
 accepted (Some Interrupted) = []
 
--- one event more, and the line that it accepts, if it does
+-- the bytes of an entry at this moment, where there is one
+abbrev pub bytes_of_entry : Option (List ℕ) → ℕ → List ℕ
+bytes_of_entry None moment = []
+bytes_of_entry (Some entry) moment = entry_bytes entry moment
+
+-- the bytes of the entry that a state adds to a history file, if it adds one, at its present moment
+abbrev pub new_entry : State → List ℕ
+new_entry s = bytes_of_entry (entry_of s.history s.outcome) s.moment
+
+-- one event more, and the line and the entry that it gives, if it does
 abbrev pub with_event : Play → Event → Play
 with_event p event = record p {
   run = ran_on p.run event;
   answers = p.answers ++ accepted (ran_on p.run event).state.outcome;
+  kept = p.kept ++ new_entry (ran_on p.run event).state;
   events = p.events ++ event ∷ [];
 }
 
@@ -70,22 +82,24 @@ usual_size = record { rows = 24; cols = 80 }
 abbrev pub terminal_size : Settings → Extent
 terminal_size settings = unwrap_or settings.size usual_size
 
--- the run of a script before its first event, on a blank terminal
-abbrev pub first_run : Given → Run
-first_run given =
-    waiting_run (opened given.settings given.entries (terminal_size given.settings) 0) (start_of (terminal_size given.settings))
+-- a run that begins in this state and on a blank terminal, before its first event
+abbrev pub waiting_in : State → Play
+waiting_in s = record {
+  first = waiting_run s (start_of s.size);
+  run = waiting_run s (start_of s.size);
+  answers = [];
+  kept = [];
+  reports = [];
+  events = [];
+}
 
--- before the first event
+-- the run of a script before its first event
 abbrev pub waiting : Given → Play
-waiting given = record { first = first_run given; run = first_run given; answers = []; reports = []; events = [] }
+waiting given = waiting_in (opened given.settings given.entries (terminal_size given.settings) 0)
 
 -- the first prompt begins
 abbrev pub begun : Given → Play
 begun given = done (waiting given) event.Start
-
--- a key that is known: printable ASCII, the key that erases, or the key that accepts
-abbrev pub is_key : ℕ → Bool
-is_key byte = is_printable byte || is_erase byte || is_accept byte
 
 -- what a line says, before these lines: the last line of a script that is too long says nothing, since it holds the byte behind the
 -- most bytes of a script
@@ -98,12 +112,13 @@ line_in false text lines = script_line text
 abbrev pub Played : Type 0
 Played = Play × Option ℕ
 
--- a line of the second part, where `rest` plays those behind it: one that sets, says nothing or has an unknown key is refused
+-- a line of the second part, where `rest` plays those behind it: one that sets or says nothing is refused
 abbrev pub went : Play → ℕ → Option ScriptLine → (Play → Played) → Played
 went p number None rest = (p, Some number)
 went p number (Some (line.Set name value)) rest = (p, Some number)
-went p number (Some (line.Piece bytes)) rest = if list_all is_key bytes then rest (done p (event.Piece bytes)) else (p, Some number)
+went p number (Some (line.Piece bytes)) rest = rest (done p (event.Piece bytes))
 went p number (Some (line.Resize size)) rest = rest (done p (event.Resize size))
+went p number (Some (line.Tick moment)) rest = rest (done p (event.Tick moment))
 went p number (Some line.Show) rest = rest (reporting p)
 went p number (Some line.End) rest = rest (done p event.End)
 

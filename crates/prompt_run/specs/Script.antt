@@ -31,6 +31,7 @@ given_by given None = None
 given_by given (Some (line.Set name value)) = set_in given name value
 given_by given (Some (line.Piece bytes)) = None
 given_by given (Some (line.Resize size)) = None
+given_by given (Some (line.Tick moment)) = None
 given_by given (Some line.Show) = None
 given_by given (Some line.End) = None
 

@@ -1,10 +1,9 @@
 //! A script from its first line to its last, and what it prints.
 ghost use Rattle.std.specs.Prelude.{◌≡◌, ◌+◌, ◌<◌, ◌≤◌, ◌^◌, ◌++◌, ◌&&◌, ◌==◌, length, None, if◌then◌else◌, is_some, flat_map, IfOk, OnOk};
-ghost use Rattle.std.specs.List.{list_all};
 ghost use Rattle.script_lines.specs.Lines.{script_lines};
 ghost use Rattle.script_lines.specs.ScriptLine.{script_line};
 ghost use Rattle.prompt_run.specs.Given.{nothing_given};
-ghost use Rattle.prompt_run.specs.Play.{Play, begun, is_key, played};
+ghost use Rattle.prompt_run.specs.Play.{Play, begun, played};
 ghost use Rattle.prompt_run.specs.Playing.{Finishes, Holds, PlaysLine, PlaysLines, SetsLine};
 ghost use Rattle.prompt_run.specs.Replay.{Closes, IsOutput};
 ghost use Rattle.prompt_run.specs.Script.{answer_row, closing, configured, output, refusal, status_row};
@@ -128,32 +127,14 @@ fn play_line(alloc: Global, player: &mut Player, line: &[u8], past: bool) -> Res
         None => return Ok(false),
     };
     match said {
-        ScriptLine::Piece(bytes) => {
-            if !all_keys(bytes.as_slice()) {
-                return Ok(false);
-            }
-            player.take(Event::Piece(bytes))?;
-        }
+        ScriptLine::Piece(bytes) => player.take(Event::Piece(bytes))?,
+        ScriptLine::Tick(moment) => player.take(Event::Tick(moment))?,
         ScriptLine::Resize(size) => player.take(Event::Resize(size))?,
         ScriptLine::End => player.take(Event::End)?,
         ScriptLine::Show => player.report()?,
         ScriptLine::Set { .. } => return Ok(false),
     }
     Ok(true)
-}
-
-/// Tells whether each byte is a key that is known.
-fn all_keys(bytes: &[u8]) -> bool
-    ensures { result ≡ list_all is_key bytes.now }
-{
-    bytes.iter().all(|byte| is_known_key(*byte))
-}
-
-/// Tells whether the byte is printable, a delete or a carriage return.
-fn is_known_key(byte: u8) -> bool
-    ensures { result ≡ is_key byte }
-{
-    matches!(byte, b' '..=b'~') || byte == 0x7f || byte == b'\r'
 }
 
 /// Ends a script behind its last line, or behind those before the line that was refused. Answers what is put on the sink, and the

@@ -15,8 +15,20 @@ pub const UNKNOWN_WORDS: Status = 2;
 /// The source of input failed.
 pub const SOURCE_FAULT: Status = 3;
 
+/// What gives the events failed.
+pub const INBOX_FAULT: Status = 3;
+
+/// The screen failed.
+pub const SCREEN_FAULT: Status = 4;
+
 /// The sink of output failed.
 pub const SINK_FAULT: Status = 5;
+
+/// What keeps the history failed.
+pub const KEEPER_FAULT: Status = 6;
+
+/// The terminal could not be entered or left.
+pub const TTY_FAULT: Status = 7;
 
 /// There was no memory.
 pub const NO_MEMORY: Status = 8;

@@ -46,7 +46,7 @@ fn prints_what_a_script_gives(rt: HostRuntime) -> Result<(), Fail> {
         ),
         ("piece a\nfly 3\n", "refused 2\nstatus 9\n", REFUSED_LINE),
         ("piece \\x41\n", "refused 1\nstatus 9\n", REFUSED_LINE),
-        ("piece \\x01\n", "refused 1\nstatus 9\n", REFUSED_LINE),
+        ("tick 01\n", "refused 1\nstatus 9\n", REFUSED_LINE),
         ("set size 0x5\n", "refused 1\nstatus 9\n", REFUSED_LINE),
         (
             "set size 3x6\nset size 3x6\n",
@@ -63,6 +63,54 @@ fn prints_what_a_script_gives(rt: HostRuntime) -> Result<(), Fail> {
             "piece C:\\\\\\x0d\n",
             "screen 24 80 1 0\n|> C:\\\n|\nanswer C:\\\\\nstatus 0\n",
             ACCEPTED,
+        ),
+    ];
+    for (script, printed, status) in cases {
+        let (found, out) = replayed(rt.alloc(), &[], script, &[], &[])?;
+        assert_eq!(rt; out.as_slice(), printed.as_bytes(), "of {script:?}");
+        assert_eq!(rt; found, status, "of {script:?}");
+    }
+    Ok(())
+}
+
+/// Keys in several pieces, an argument, a paste, and the keys that end a prompt.
+#[test]
+fn runs_keys(rt: HostRuntime) -> Result<(), Fail> {
+    let cases = [
+        (
+            "set entry old\npiece \\x1b\npiece [\npiece A\nshow\npiece \\x1b[B\n",
+            "screen 24 80 0 5\n|> old\nscreen 24 80 1 0\n|>\n|\nstatus 1\n",
+            END_OF_FILE,
+        ),
+        (
+            "piece \\x1b\ntick 500\npiece 9x\nshow\n",
+            "screen 24 80 0 11\n|> xxxxxxxxx\nscreen 24 80 1 0\n|> xxxxxxxxx\n|\nstatus 1\n",
+            END_OF_FILE,
+        ),
+        (
+            "piece \\x1b\ntick 500\ntick 1500\npiece 9x\nshow\n",
+            "screen 24 80 0 4\n|> 9x\nscreen 24 80 1 0\n|> 9x\n|\nstatus 1\n",
+            END_OF_FILE,
+        ),
+        (
+            "piece \\x1b[200~zz\ntick 5000\nshow\n",
+            "screen 24 80 0 2\n|>\nscreen 24 80 1 0\n|>\n|\nstatus 1\n",
+            END_OF_FILE,
+        ),
+        (
+            "piece ab\\x01\\x04\\x0d\n",
+            "screen 24 80 1 0\n|> b\n|\nanswer b\nstatus 0\n",
+            ACCEPTED,
+        ),
+        (
+            "piece ab\\x03\n",
+            "screen 24 80 1 0\n|> ab\n|\nstatus 130\n",
+            INTERRUPTED,
+        ),
+        (
+            "piece \\x04\n",
+            "screen 24 80 1 0\n|>\n|\nstatus 1\n",
+            END_OF_FILE,
         ),
     ];
     for (script, printed, status) in cases {
@@ -142,15 +190,13 @@ fn wraps_scrolls_and_resizes(rt: HostRuntime) -> Result<(), Fail> {
 /// A full text takes no further letter, and is accepted as it is.
 #[test]
 fn stays_at_a_full_text(rt: HostRuntime) -> Result<(), Fail> {
-    let mut script = String::from_str(rt.alloc(), "set size 2x1000\npiece ")?;
+    let mut script = String::from_str(rt.alloc(), "set size 2x1000\npiece \\x1b[200~")?;
     let mut end = String::from_str(rt.alloc(), "\nanswer ")?;
-    for letter in 0..32_780 {
+    for _ in 0..32_768 {
         script.push('a')?;
-        if letter < 32_768 {
-            end.push('a')?;
-        }
+        end.push('a')?;
     }
-    script.push_str("\\x0d\n")?;
+    script.push_str("\\x1b[201~bc\\x0d\n")?;
     end.push_str("\nstatus 0\n")?;
     let (found, out) = replayed(rt.alloc(), &[], script.as_str(), &[], &[])?;
     assert_eq!(rt; found, ACCEPTED);

@@ -11,4 +11,5 @@ mod tests;
 mod values;
 
 pub use configs::{Config, SetFault};
+pub use numbers::read_number;
 pub use sizes::read_size;

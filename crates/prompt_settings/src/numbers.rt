@@ -4,7 +4,7 @@ ghost use Rattle.prompt_settings.specs.Number.{number_of};
 
 /// Returns the number that is written as this text, where it is at most `most`: in decimal, without leading zeros. It
 /// is read no further than to the digit that makes it too large.
-pub(crate) fn read_number(text: &[char], most: u64) -> Option<u64>
+pub fn read_number(text: &[char], most: u64) -> Option<u64>
     requires { most ≤ 1000000000000000000 }
     ensures { result ≡ number_of most text.now }
 {

@@ -47,6 +47,30 @@ fn sets_values(rt: HostRuntime) -> Result<(), Fail> {
 }
 
 #[test]
+fn sets_texts_and_switches(rt: HostRuntime) -> Result<(), Fail> {
+    let mut config = Config::new(rt.alloc())?;
+    let cases = [
+        ("toolbar", "", Err(SetFault::BadValue)),
+        ("rprompt", "a", Ok(())),
+        ("default", "a\nb", Ok(())),
+        ("default", "", Err(SetFault::Repeated)),
+        ("password", "off", Err(SetFault::BadValue)),
+        ("multiline", "on", Ok(())),
+        ("multiline", "on", Err(SetFault::Repeated)),
+        ("no-wrap", "o", Err(SetFault::BadValue)),
+    ];
+    for (name, value, answer) in &cases {
+        let value = text(&rt, value)?;
+        assert_eq!(rt; config.set(name, &value), *answer, "{name}");
+    }
+    assert_eq!(rt; config.right_prompt(), ['a'].as_slice());
+    assert_eq!(rt; config.default().len(), 3);
+    assert!(rt; config.toolbar().is_empty());
+    assert!(rt; config.multiline() && config.wraps() && !config.password());
+    Ok(())
+}
+
+#[test]
 fn sets_entries_of_many_lengths(rt: HostRuntime) -> Result<(), Fail> {
     let cases = [(32_768, Ok(())), (32_769, Err(SetFault::BadValue))];
     for (length, answer) in &cases {

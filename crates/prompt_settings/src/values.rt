@@ -3,7 +3,7 @@ ghost use Rattle.std.specs.Prelude.{◌≡◌, not};
 ghost use Rattle.std.specs.List.{list_all};
 ghost use Rattle.cell_grid.specs.TextCells.{is_control};
 ghost use Rattle.prompt_settings.specs.Size.{size_of};
-ghost use Rattle.prompt_settings.specs.Value.{is_entry, is_short_line, is_value, line_count};
+ghost use Rattle.prompt_settings.specs.Value.{is_bar, is_entry, is_on, is_short_line, is_text, is_value, line_count};
 
 use crate::names::Setting;
 use crate::numbers::read_number;
@@ -17,8 +17,8 @@ const MAX_MESSAGE: usize = 200;
 /// The most lines that a run accepts.
 const MAX_REPEAT: u64 = 100;
 
-/// The most characters of an entry of a history.
-const MAX_ENTRY: usize = 32_768;
+/// The most characters of an entry of a history, and of a first text.
+const MAX_TEXT: usize = 32_768;
 
 /// Tells whether the setting may have this value.
 pub(crate) fn is_value(setting: Setting, value: &Text) -> bool
@@ -26,6 +26,9 @@ pub(crate) fn is_value(setting: Setting, value: &Text) -> bool
 {
     match setting {
         Setting::Message => is_short_line(value.as_slice()),
+        Setting::Toolbar | Setting::RightPrompt => is_bar(value.as_slice()),
+        Setting::Default => is_text(value.as_slice()),
+        Setting::Multiline | Setting::NoWrap | Setting::Password => is_on(value.as_slice()),
         Setting::Size => size_value(value).is_some(),
         Setting::Repeat => repeat_value(value).is_some(),
         Setting::Entry => is_entry(value.as_slice()),
@@ -51,7 +54,28 @@ pub(crate) fn repeat_value(value: &Text) -> Option<u32>
 fn is_entry(text: &[char]) -> bool
     ensures { result ≡ is_entry text.now }
 {
-    !text.is_empty() && text.len() <= MAX_ENTRY
+    !text.is_empty() && is_text(text)
+}
+
+/// Tells whether there are few enough characters for the text of a document.
+fn is_text(text: &[char]) -> bool
+    ensures { result ≡ is_text text.now }
+{
+    text.len() <= MAX_TEXT
+}
+
+/// Tells whether there is a character, and a line may be drawn of them.
+fn is_bar(text: &[char]) -> bool
+    ensures { result ≡ is_bar text.now }
+{
+    !text.is_empty() && is_short_line(text)
+}
+
+/// Tells whether this is the value that switches something on.
+fn is_on(text: &[char]) -> bool
+    ensures { result ≡ is_on text.now }
+{
+    text == ['o', 'n'].as_slice()
 }
 
 /// Tells whether there are few enough characters, none of them a control character.

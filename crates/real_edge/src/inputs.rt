@@ -45,7 +45,7 @@ impl<R: Read + Drop> Source for InputSource<R> {
 }
 
 /// Reads once, and again where a signal interrupted the read.
-fn read_uninterrupted<R: Read>(reader: &mut R, into: &mut [u8]) -> io::Result<usize>
+pub(crate) fn read_uninterrupted<R: Read>(reader: &mut R, into: &mut [u8]) -> io::Result<usize>
     ensures { ReadsAtMost result into.new }
 {
     for _ in 0..u64::MAX {

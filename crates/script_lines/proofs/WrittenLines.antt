@@ -14,10 +14,12 @@ use Rattle.std.proofs.lemmas.Slice.Eq.{bytes_eq-Decides}
 use Rattle.std.proofs.lemmas.Str.{IsUtf8-from_is_utf8, chars-encodes, encodes-chars, is_utf8-from_IsUtf8, scalars-chars}
 use Rattle.cell_grid.specs.Size.{Extent}
 use Rattle.prompt_settings.specs.Size.{size_of}
+use Rattle.prompt_settings.proofs.NumberLemmas.{is_number, number_of-decimal}
 use Rattle.prompt_settings.proofs.SizeLemmas.{is_size, size_of-spelled}
+use Rattle.prompt_settings.specs.Number.{number_of}
 use Rattle.script_lines.specs.declared.script_line.ScriptLine.{ScriptLine}
-use Rattle.script_lines.specs.declared.script_line.ScriptLine.TheVariants.{Set, Piece, Resize, Show, End}
-use Rattle.script_lines.specs.ScriptLine.{chars_in, is_piece, parts_line, piece_line, resize_line, said_by, script_line, set_cut, set_from, set_line, utf8_in}
+use Rattle.script_lines.specs.declared.script_line.ScriptLine.TheVariants.{Set, Piece, Resize, Tick, Show, End}
+use Rattle.script_lines.specs.ScriptLine.{chars_in, is_piece, parts_line, piece_line, resize_line, said_by, script_line, set_cut, set_from, set_line, tick_line, utf8_in}
 use Rattle.script_lines.specs.Spelled.{IsWithinLimits, Says, spelled_line}
 use Rattle.script_lines.specs.Spelling.{spelling, unspelled}
 use Rattle.script_lines.proofs.SpellingLemmas.{spells, unspelled-spelling}
@@ -118,19 +120,31 @@ resize_parts text (Some size) said of_size read =
     let is = is_size 32 text size of_size in
     subst (λ (s : ScriptLine). Tells (codes "resize " ++ text) s) same (record { written = ap (λ t. codes "resize " ++ t) is.0; within = is.1 })
 
+-- a moment that was read
+tick_parts : (text : List ℕ) (moment : Option ℕ) (said : ScriptLine) → number_of 1000000000000000 text ≡ moment → tick_line moment ≡ Some said → Tells (codes "tick " ++ text) said
+tick_parts text None said of_moment read = absurd (none-some said read)
+tick_parts text (Some moment) said of_moment read =
+    let same : Tick moment ≡ said = cc in
+    let is = is_number 1000000000000000 text moment of_moment in
+    subst (λ (s : ScriptLine). Tells (codes "tick " ++ text) s) same (record { written = ap (λ t. codes "tick " ++ t) is.written; within = is.within })
+
 -- what a line with parts was read as
 parts_told : (line : List ℕ) (said : ScriptLine) → parts_line line ≡ Some said → Tells line said
 parts_told line said read =
-    let sized : Option ScriptLine = cond (starts_with nat_eq line (codes "resize ")) (resize_line (size_of 32 (drop 7 line))) None in
+    let timed : Option ScriptLine = cond (starts_with nat_eq line (codes "tick ")) (tick_line (number_of 1000000000000000 (drop 5 line))) None in
+    let sized : Option ScriptLine = cond (starts_with nat_eq line (codes "resize ")) (resize_line (size_of 32 (drop 7 line))) timed in
     let rest : Option ScriptLine = cond (starts_with nat_eq line (codes "piece ")) (piece_line (unspelled (drop 6 line))) sized in
     let T : List ℕ → Type 0 = λ l. Tells l said in
     ⊎_elim
     (λ set. subst T (sym (begins (codes "set ") line set.0)) (set_told (drop 4 line) (position is_space (drop 4 line)) said refl set.1))
     (λ other. ⊎_elim
     (λ piece. subst T (sym (begins (codes "piece ") line piece.0)) (piece_parts (drop 6 line) (unspelled (drop 6 line)) said refl piece.1))
+    (λ behind. ⊎_elim
+    (λ resize. subst T (sym (begins (codes "resize ") line resize.0)) (resize_parts (drop 7 line) (size_of 32 (drop 7 line)) said refl resize.1))
     (λ last.
-    let resize = only_true (starts_with nat_eq line (codes "resize ")) (resize_line (size_of 32 (drop 7 line))) said last.1 in
-    subst T (sym (begins (codes "resize ") line resize.0)) (resize_parts (drop 7 line) (size_of 32 (drop 7 line)) said refl resize.1))
+    let tick = only_true (starts_with nat_eq line (codes "tick ")) (tick_line (number_of 1000000000000000 (drop 5 line))) said last.1 in
+    subst T (sym (begins (codes "tick ") line tick.0)) (tick_parts (drop 5 line) (number_of 1000000000000000 (drop 5 line)) said refl tick.1))
+    (choice (starts_with nat_eq line (codes "resize ")) (resize_line (size_of 32 (drop 7 line))) timed said behind.1))
     (choice (starts_with nat_eq line (codes "piece ")) (piece_line (unspelled (drop 6 line))) sized said other.1))
     (choice (starts_with nat_eq line (codes "set ")) (set_line (drop 4 line)) rest said read)
 
@@ -192,6 +206,7 @@ said_back (Piece bytes) within =
     ∙ cond-true (is_piece bytes) (Some (Piece bytes)) None
     (and_from (nat_le 1 (length bytes)) (nat_le (length bytes) 65536) (le-leb 1 (length bytes) within.1) (le-leb (length bytes) 65536 within.2))
 said_back (Resize size) within = ap resize_line (size_of-spelled 32 size refl within)
+said_back (Tick moment) within = ap tick_line (number_of-decimal 1000000000000000 moment (omega arith) within)
 said_back Show within = refl
 said_back End within = refl
 

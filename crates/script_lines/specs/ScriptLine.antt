@@ -3,9 +3,10 @@ use Rattle.std.specs.Prelude.{ℕ, ◌+◌, Bool, ◌==◌, ◌&&◌, List, leng
 use Rattle.std.specs.List.{starts_with}
 use Rattle.std.specs.Str.{bytes_eq, is_utf8}
 use Rattle.cell_grid.specs.Size.{Extent}
+use Rattle.prompt_settings.specs.Number.{number_of}
 use Rattle.prompt_settings.specs.Size.{size_of}
 use Rattle.script_lines.specs.declared.script_line.ScriptLine.{ScriptLine}
-use Rattle.script_lines.specs.declared.script_line.ScriptLine.TheVariants.{Set, Piece, Resize, Show, End}
+use Rattle.script_lines.specs.declared.script_line.ScriptLine.TheVariants.{Set, Piece, Resize, Tick, Show, End}
 use Rattle.script_lines.specs.Spelling.{unspelled}
 
 -- the bytes, where they are UTF-8
@@ -45,12 +46,17 @@ piece_line (Some bytes) = if is_piece bytes then Some (Piece bytes) else None
 abbrev pub resize_line : Option Extent → Option ScriptLine
 resize_line size = option_map Resize size
 
+-- the moment that stands behind `tick `
+abbrev pub tick_line : Option ℕ → Option ScriptLine
+tick_line moment = option_map Tick moment
+
 -- what a line says whose first word has parts behind it
 abbrev pub parts_line : List ℕ → Option ScriptLine
 parts_line line =
     if starts_with nat_eq line (codes "set ") then set_line (drop 4 line)
     else if starts_with nat_eq line (codes "piece ") then piece_line (unspelled (drop 6 line))
     else if starts_with nat_eq line (codes "resize ") then resize_line (size_of 32 (drop 7 line))
+    else if starts_with nat_eq line (codes "tick ") then tick_line (number_of 1000000000000000 (drop 5 line))
     else None
 
 -- what a line says, however long it is

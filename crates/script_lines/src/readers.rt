@@ -1,14 +1,15 @@
 //! Lines of a script as what they say.
 ghost use Rattle.std.specs.Prelude.{◌≡◌, ◌<◌, ◌==◌, Ok, None, IfOk, length, position};
 ghost use Rattle.std.specs.Option.{option_copied};
+ghost use Rattle.prompt_settings.specs.Number.{number_of};
 ghost use Rattle.prompt_settings.specs.Size.{size_of};
 ghost use Rattle.script_lines.specs.ScriptLine.{chars_in, is_piece, parts_line, piece_line, resize_line, said_by};
-ghost use Rattle.script_lines.specs.ScriptLine.{script_line, set_line, utf8_in};
+ghost use Rattle.script_lines.specs.ScriptLine.{script_line, set_line, tick_line, utf8_in};
 ghost use Rattle.script_lines.specs.Spelling.{unspelled};
 
 use crate::spelling::read_spelling;
 use crate::{Name, ScriptLine};
-use prompt_settings::read_size;
+use prompt_settings::{read_number, read_size};
 use std::alloc::Global;
 use text_doc::{Bytes, NoMemory, Text};
 
@@ -17,6 +18,9 @@ const MAX_LINE: usize = 300_000;
 
 /// The most bytes of a piece.
 const MAX_PIECE: usize = 65_536;
+
+/// The last moment that a line can say.
+const MAX_MOMENT: u64 = 1_000_000_000_000_000;
 
 /// Returns what a line says, given without its line feed. There is nothing where it is outside the grammar.
 ///
@@ -63,6 +67,10 @@ fn read_parts(alloc: Global, line: &[u8]) -> Result<Option<ScriptLine>, NoMemory
     }
     if line.starts_with(b"resize ") {
         let said = read_resize(alloc, &line[7..])?;
+        return Ok(said);
+    }
+    if line.starts_with(b"tick ") {
+        let said = read_tick(alloc, &line[5..])?;
         return Ok(said);
     }
     Ok(None)
@@ -156,6 +164,14 @@ fn read_resize(alloc: Global, text: &[u8]) -> Result<Option<ScriptLine>, NoMemor
 {
     let chars = chars_of(alloc, text)?;
     Ok(read_size(&chars, ' ').map(ScriptLine::Resize))
+}
+
+/// Reads what stands behind `tick `: a moment.
+fn read_tick(alloc: Global, text: &[u8]) -> Result<Option<ScriptLine>, NoMemory>
+    ensures { IfOk result (λ said. said ≡ tick_line (number_of 1000000000000000 text.now)) }
+{
+    let chars = chars_of(alloc, text)?;
+    Ok(read_number(&chars, MAX_MOMENT).map(ScriptLine::Tick))
 }
 
 /// Returns the characters whose codes the bytes are.

@@ -12,6 +12,8 @@ pub enum ScriptLine {
     Piece(Bytes),
     /// `resize ROWS COLUMNS`: the terminal has a new size.
     Resize(Size),
+    /// `tick MOMENT`: the clock says a moment, in milliseconds from 0 to 1,000,000,000,000,000.
+    Tick(u64),
     /// `show`: a report of the screen is printed.
     Show,
     /// `end`: the input ends.

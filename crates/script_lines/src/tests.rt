@@ -17,6 +17,7 @@ fn told(alloc: Global, said: ScriptLine) -> Result<String, NoMemory> {
             format!(in alloc; "piece {bytes:?}")
         }
         ScriptLine::Resize(size) => format!(in alloc; "resize {} {}", size.rows(), size.cols()),
+        ScriptLine::Tick(moment) => format!(in alloc; "tick {moment}"),
         ScriptLine::Show => String::from_str(alloc, "show"),
         ScriptLine::End => String::from_str(alloc, "end"),
     }

@@ -1,19 +1,30 @@
 -- Keys that are run one after another.
-use Rattle.std.proofs.Common.{◌≡◌, ℕ, ◌+◌, ◌<◌, cond, List, ◌∷◌, length, drop, get_or, ap, sym, ◌∙◌}
-use Rattle.std.proofs.lemmas.Bool.{ne_eqb}
-use Rattle.std.proofs.lemmas.List.{drop_more}
-use Rattle.session_core.specs.Draw.{settle}
-use Rattle.session_core.specs.Keys.{edited, ran}
+use Rattle.std.proofs.Common.{◌≡◌, Bool, true, false, List, [], ◌∷◌, ◌++◌, drop, slice_get, is_some, if◌then◌else◌, refl, ap, sym, ◌∙◌}
+use Rattle.std.specs.Prelude.{Option, None, Some}
+use Rattle.key_names.specs.declared.key.KeyPress.{KeyPress}
+use Rattle.std.proofs.lemmas.Option.{none-some}
+use Rattle.session_core.specs.Keys.{kept_behind, ran_key, ran_keys}
 use Rattle.session_core.specs.State.{State}
-use Rattle.std.specs.Prelude.{Some}
-use Rattle.session_core.specs.declared.outcomes.Outcome.TheVariants.{Accepted}
 
--- a key that does not end the prompt
-pub ran_on : (s t : State) (bytes : List ℕ) (at byte : ℕ) → at < length bytes → byte ≡ get_or bytes at 0 → (byte ≡ 13 → ⊥)
-    → t ≡ settle (record s { doc = edited s.doc byte }) → ran t (drop (at + 1) bytes) ≡ ran s (drop at bytes)
-ran_on s t bytes at byte within is other made =
-    let rest : List ℕ = drop (at + 1) bytes in
-    let ended : State = settle (record s { outcome = Some (Accepted s.doc.text); kept = rest }) in
-    let on : State = ran (settle (record s { doc = edited s.doc byte })) rest in
-    let more : drop at bytes ≡ byte ∷ rest = drop_more bytes at 0 within ∙ ap (λ b. b ∷ rest) (sym is) in
-    ap (λ u. ran u rest) made ∙ ap (λ b. cond b ended on) (sym (ne_eqb byte 13 other)) ∙ ap (ran s) (sym more)
+-- the first of some keys, and those behind it
+pub first_taken : (keys : List KeyPress) (key : KeyPress) → slice_get keys 0 ≡ Some key → key ∷ drop 1 keys ≡ keys
+first_taken [] key is = absurd (none-some key is)
+first_taken (first ∷ keys) key is = let same : key ≡ first = cc in ap (λ k. k ∷ keys) same
+
+-- where there is no first, there is none
+pub none_taken : (keys : List KeyPress) → slice_get keys 0 ≡ None → keys ≡ []
+none_taken [] is = refl
+none_taken (first ∷ keys) is = absurd (none-some first (sym is))
+
+-- a key behind which the prompt goes on
+pub ran_on : (s t : State) (key : KeyPress) (keys : List KeyPress) → t ≡ ran_key s key → t.outcome ≡ None → ran_keys t keys ≡ ran_keys s (key ∷ keys)
+ran_on s t key keys made none =
+    let on : is_some (ran_key s key).outcome ≡ false = ap (λ (u : State). is_some u.outcome) (sym made) ∙ ap is_some none in
+    ap (λ u. ran_keys u keys) made ∙ sym (ap (λ b. if b then kept_behind (ran_key s key) keys else ran_keys (ran_key s key) keys) on)
+
+-- a key that ends the prompt
+pub ran_last : (s t : State) (key : KeyPress) (keys : List KeyPress) → t ≡ ran_key s key → is_some t.outcome ≡ true
+    → kept_behind t keys ≡ ran_keys s (key ∷ keys)
+ran_last s t key keys made ended =
+    let over : is_some (ran_key s key).outcome ≡ true = ap (λ (u : State). is_some u.outcome) (sym made) ∙ ended in
+    ap (λ u. kept_behind u keys) made ∙ sym (ap (λ b. if b then kept_behind (ran_key s key) keys else ran_keys (ran_key s key) keys) over)

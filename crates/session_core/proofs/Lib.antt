@@ -1,6 +1,7 @@
-pub mod CellLemmas
-pub mod TypedLemmas
-pub mod WindowLemmas
+pub mod CommandLemmas
+pub mod DrainLemmas
+pub mod FactLemmas
+pub mod HistoryLemmas
 pub mod KeyLemmas
-pub mod DrawLemmas
+pub mod SceneLemmas
 pub mod StateLemmas

@@ -1,64 +1,111 @@
--- What a contract sees of the drawing of a state: the rows of its line that the buffer's window shows.
-use Rattle.std.specs.Prelude.{◌≡◌, ℕ, true, min, List, [], ◌∷◌, ◌++◌, length, take, codes}
-use Rattle.cell_grid.specs.declared.cell.Cell.{Cell}
-use Rattle.cell_grid.specs.declared.fragment.Fragment.{Fragment}
+-- What is drawn of a state, and how far its window is scrolled.
+use Rattle.std.specs.Prelude.{◌≡◌, ℕ, Bool, true, false, not, List, [], ◌∷◌, ◌++◌, take, Option, None, Some, is_some}
+use Rattle.cell_grid.specs.declared.attrs.Attrs.{Attrs}
+use Rattle.cell_grid.specs.declared.attrs.Colour.TheVariants.{Ansi}
 use Rattle.cell_grid.specs.Attrs.{plain}
-use Rattle.cell_grid.specs.Drawing.{Drawn}
 use Rattle.cell_grid.specs.Size.{Extent}
-use Rattle.cell_grid.specs.TextCells.{cells_of}
-use Rattle.text_doc.specs.Document.{Document}
-use Rattle.prompt_settings.specs.Settings.{message_of}
-use Rattle.win_view.specs.declared.contents.Content.{Content}
+use Rattle.cell_grid.specs.declared.drawing.Drawing.{Drawing}
+use Rattle.edit_state.specs.declared.arguments.Arg.{Arg}
+use Rattle.edit_state.specs.declared.states.EditState.{EditState}
+use Rattle.edit_state.specs.declared.states.Search.{Search}
+use Rattle.prompt_settings.specs.Settings.{Settings, message_of, right_prompt_of, toolbar_of}
+use Rattle.prompt_view.specs.declared.scenes.Direction.{Direction}
+use Rattle.prompt_view.specs.declared.scenes.Direction.TheVariants.{Forward, Backward}
+use Rattle.prompt_view.specs.declared.scenes.SceneLooks.{SceneLooks}
+use Rattle.prompt_view.specs.declared.scenes.Selection.TheVariants.{Exclusive}
+use Rattle.prompt_view.specs.Drawing.{drawing_of}
+use Rattle.prompt_view.specs.Rooms as rooms
+use Rattle.prompt_view.specs.Scene.{SceneFields}
 use Rattle.win_view.specs.declared.scrolls.Scroll.{Scroll}
-use Rattle.win_view.specs.declared.views.WindowView.{WindowView}
-use Rattle.win_view.specs.Contents.{content_rows}
-use Rattle.win_view.specs.Settling.{settled}
-use Rattle.win_view.specs.Views.{viewed}
 use Rattle.session_core.specs.State.{State}
 
--- a text without attributes
-abbrev pub plain_fragment : List ℕ → Fragment
-plain_fragment text = record { attrs = plain; control = plain; text = text }
+-- attributes that are plain but for a colour, or two, or in reverse
+abbrev pub in_colour : ℕ → Attrs
+in_colour number = record plain { fg = Some (Ansi number) }
 
--- the cells of a text without attributes
-abbrev pub plain_cells : List ℕ → List Cell
-plain_cells text = cells_of (plain_fragment text ∷ [])
+abbrev pub in_colours : ℕ → ℕ → Attrs
+in_colours number back = record plain { fg = Some (Ansi number); bg = Some (Ansi back) }
 
--- the cells of the line: the message, the text and one blank
-abbrev pub line_of : List ℕ → Document → List Cell
-line_of message doc = plain_cells (message ++ doc.text ++ codes " ")
+abbrev pub reversed : Attrs → Attrs
+reversed attrs = record attrs { reverse = true }
 
--- what the buffer's window shows: the line, which wraps, with the cursor behind the message and the text before it
-abbrev pub content_by : List ℕ → Document → Content
-content_by message doc = record {
-  lines = line_of message doc ∷ [];
-  line = 0;
-  cell = length (plain_cells (message ++ take doc.cursor doc.text));
-  wrap = true;
+-- the attributes that each class has where no rule says otherwise
+abbrev pub usual_looks : SceneLooks
+usual_looks = record {
+  prompt = plain;
+  continuation = plain;
+  control = in_colour 4;
+  selected = reversed plain;
+  suggestion = in_colour 8;
+  right_prompt = plain;
+  menu = in_colours 0 7;
+  chosen = reversed (in_colours 0 7);
+  verdict = in_colours 7 1;
+  argument = plain;
+  search = plain;
+  toolbar = reversed plain;
 }
 
--- the rows and columns of the buffer's window: all rows of the line, or as many as the terminal has
-abbrev pub window_by : Content → Extent → Extent
-window_by content size = record { rows = min size.rows (length (content_rows content size.cols)); cols = size.cols }
+-- an argument as it is drawn: a sign where it is negative, and its digits, of which it keeps no more than eight
+abbrev pub signed : Bool → List ℕ → List ℕ
+signed true digits = 45 ∷ digits
+signed false digits = digits
 
-abbrev pub content_of : State → Content
-content_of s = content_by (message_of s.settings) s.doc
+abbrev pub argument_text : Option Arg → List ℕ
+argument_text None = []
+argument_text (Some arg) = signed arg.negative (take 8 arg.digits)
 
-abbrev pub window_of : State → Extent
-window_of s = window_by (content_of s) s.size
+-- the way of a search, and the text that is searched for
+abbrev pub direction_by : Bool → Direction
+direction_by true = Forward
+direction_by false = Backward
+
+abbrev pub direction_of : Option Search → Option Direction
+direction_of None = None
+direction_of (Some search) = Some (direction_by search.forward)
+
+abbrev pub needle_of : Option Search → List ℕ
+needle_of None = []
+needle_of (Some search) = search.needle
+
+-- what is drawn of what is edited
+abbrev pub scene_by : Settings → EditState → Bool → Extent → Scroll → SceneFields
+scene_by settings e finished size scroll = record {
+  message = message_of settings;
+  document = e.buffer.doc;
+  multiline = e.multiline;
+  password = settings.password;
+  wrap = not settings.no_wrap;
+  selection = Exclusive;
+  suggestion = [];
+  items = [];
+  chosen = None;
+  origin = 0;
+  completes = false;
+  right_prompt = right_prompt_of settings;
+  verdict = [];
+  argument = argument_text e.arg;
+  search = direction_of e.search;
+  needle = needle_of e.search;
+  toolbar = toolbar_of settings;
+  finished = finished;
+  size = size;
+  scroll = scroll;
+  room = None;
+  looks = usual_looks;
+}
+
+unfoldable pub scene_of : State → SceneFields
+scene_of s = scene_by s.settings s.edit (is_some s.outcome) s.size s.scroll
 
 -- the state with its window scrolled to the cursor
-abbrev pub settle : State → State
-settle s = record s { scroll = settled (content_of s) (window_of s) s.scroll }
+unfoldable pub settle : State → State
+settle s = record s { scroll = rooms.settled_scroll (scene_of s) }
 
--- the window is scrolled to the cursor, from some scroll before
+-- the window is scrolled to the cursor
 abbrev pub IsSettled : State → Type 0
-IsSettled s = (old : Scroll) × (s.scroll ≡ settled (content_of s) (window_of s) old)
-
--- a view as a drawing
-abbrev pub drawn_view : WindowView → Drawn
-drawn_view view = record { grid = view.grid; row = view.row; col = view.col }
+IsSettled s = rooms.settled_scroll (scene_of s) ≡ s.scroll
 
 -- the full drawing of a state
-unfoldable pub draw : State → Drawn
-draw s = drawn_view (viewed (content_of s) (window_of s) s.scroll)
+unfoldable pub draw : State → Drawing
+draw s = drawing_of (scene_of s)

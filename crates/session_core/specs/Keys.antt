@@ -1,44 +1,31 @@
--- What a key does to the state: a byte is a key.
-use Rattle.std.specs.Prelude.{◌≡◌, ℕ, ◌-◌, Bool, ◌==◌, ◌&&◌, nat_le, nat_lt, List, [], ◌∷◌, length, Some, Result, IsOk, if◌then◌else◌}
-use Rattle.text_doc.specs.Document.{Document}
-use Rattle.text_doc.specs.Edits.{inserted, deleted}
-use Rattle.text_doc.specs.declared.documents.TheConstants.{MAX_LENGTH}
-use Rattle.session_core.specs.declared.outcomes.Outcome.TheVariants.{Accepted}
+-- What keys make of a state: each is held with those before it until bindings of them fire, and the window follows the cursor behind each.
+use Rattle.std.specs.Prelude.{ℕ, Bool, true, false, List, [], ◌∷◌, ◌++◌, Option, None, Some, is_some, if◌then◌else◌}
+use Rattle.key_names.specs.declared.key.KeyPress.{KeyPress}
 use Rattle.session_core.specs.Draw.{settle}
 use Rattle.session_core.specs.State.{State}
+use Rattle.session_core.specs.Typing.{Typing, drained}
 
--- printable ASCII
-abbrev pub is_printable : ℕ → Bool
-is_printable byte = nat_le 32 byte && nat_le byte 126
+-- what keys change of a state
+abbrev pub typing_of : State → Typing
+typing_of s = record { edit = s.edit; held = s.held; outcome = s.outcome }
 
--- carriage return, the key that accepts the text
-abbrev pub is_accept : ℕ → Bool
-is_accept byte = byte == 13
+abbrev pub with_typing : State → Typing → State
+with_typing s t = record s { edit = t.edit; held = t.held; outcome = t.outcome }
 
--- the document with a character typed at its cursor, where there is room for one more
-abbrev pub typed : Document → ℕ → Document
-typed doc byte = if nat_lt (length doc.text) MAX_LENGTH then inserted doc (byte ∷ []) else doc
+-- one more key is held
+abbrev pub pressed : KeyPress → Typing → Typing
+pressed key t = record t { held = t.held ++ key ∷ [] }
 
--- a key was done well, and left the document as it was
-pub record HasDoneNothing {E : Type 0} (result : Result (Unit {0}) E) (old new : Document) : Type 0 where
-  pub ok : IsOk result
-  pub same : new ≡ old
+-- a key is run
+unfoldable pub ran_key : State → KeyPress → State
+ran_key s key = settle (with_typing (record s { key_moment = s.moment }) (drained false (pressed key (typing_of s))))
 
--- delete, the key that erases the character before the cursor
-abbrev pub is_erase : ℕ → Bool
-is_erase byte = byte == 127
+-- where the prompt has ended, the keys that are held are kept, and these behind them
+abbrev pub kept_behind : State → List KeyPress → State
+kept_behind s keys = record s { held = []; kept = s.held ++ keys }
 
--- the document without the character before its cursor, if there is one
-abbrev pub erased : Document → Document
-erased doc = if doc.cursor == 0 then doc else deleted doc (doc.cursor - 1) doc.cursor
-
--- the document behind a key that does not end the prompt: any but those two does nothing
-abbrev pub edited : Document → ℕ → Document
-edited doc byte = if is_printable byte then typed doc byte else if is_erase byte then erased doc else doc
-
--- the keys are run in order, and the window follows the cursor behind each; one that accepts ends the prompt, and those behind it are kept
-abbrev pub ran : State → List ℕ → State
-ran s [] = s
-ran s (byte ∷ bytes) =
-    if is_accept byte then settle (record s { outcome = Some (Accepted s.doc.text); kept = bytes })
-    else ran (settle (record s { doc = edited s.doc byte })) bytes
+-- keys are run in order; one that ends the prompt is the last
+abbrev pub ran_keys : State → List KeyPress → State
+ran_keys s [] = s
+ran_keys s (key ∷ keys) =
+    if is_some (ran_key s key).outcome then kept_behind (ran_key s key) keys else ran_keys (ran_key s key) keys

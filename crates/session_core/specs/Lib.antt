@@ -4,4 +4,6 @@ pub mod History
 pub mod Keys
 pub mod Next
 pub mod State
-pub mod Windows
+pub mod Outcomes
+pub mod Typing
+pub mod Wishes

@@ -1,15 +1,14 @@
 //! A prompt's session: its state, what an event does to it, and its drawing.
 #![tactic(auto)]
 
-mod drawings;
-mod edits;
+mod commands;
 mod histories;
 pub mod laws;
 mod outcomes;
+mod scenes;
 mod sessions;
 #[cfg(test)]
 mod tests;
-mod windows;
 
 pub use events::Event;
 pub use outcomes::{Outcome, StepFault};

@@ -1,33 +1,50 @@
 //! A session: its state, and what an event does to it.
 
-use crate::drawings::{draw_window, plain_row};
-use crate::edits::edit;
-use crate::histories::new_entry;
+use crate::commands::{drain, keys_behind};
+use crate::histories::{begin_line, history_with, new_entry};
 use crate::outcomes::{Outcome, StepFault};
-use crate::windows::settled_scroll;
-use cell_grid::{CellRow, Drawing, Size};
-use edit_buffer::keep_newest;
+use crate::scenes::{drawing, settled_scroll};
+use cell_grid::{Drawing, Size};
+use edit_buffer::{Buffer, Ring, keep_newest};
+use edit_cmds::{EMACS, emacs_bindings};
+use edit_state::EditState;
 use events::Event;
+use key_names::KeyPress;
+use key_proc::{Bindings, Held};
 use prompt_settings::Config;
+use requests::{Kind, Request};
+use sequences::Queue;
 use std::alloc::Global;
 use std::marker::Model;
-use text_doc::{Bytes, Doc, Lines, NoMemory, Text};
+use text_doc::{Doc, Item, Lines, NoMemory, Text};
+use vt_input::{Keys, Parser, standard_table};
 use win_view::Scroll;
 
-/// The state of one prompt: a line that is being edited until it is accepted.
-#[derive(Debug, Drop)]
+/// How long a key may wait for the rest of its bytes, in milliseconds.
+const INPUT_WAITS: u64 = 500;
+
+/// How long held keys may wait for a further key, in milliseconds.
+const KEYS_WAIT: u64 = 1_000;
+
+/// The state of one prompt: a text that is edited until it is accepted or the prompt ends otherwise.
+#[derive(Drop)]
 pub struct Session {
     alloc: Global,
-    doc: Doc,
-    size: Size,
+    bindings: Bindings<EMACS>,
+    edit: EditState,
+    parser: Parser<75>,
+    held: Held,
     moment: u64,
+    // the moment of the last piece
+    piece_moment: u64,
+    // the moment of the last key
+    key_moment: u64,
+    size: Size,
+    scroll: Scroll,
     config: Config,
     history: Vec<Text>,
-    // the cells of the message
-    prompt: CellRow,
-    scroll: Scroll,
     outcome: Option<Outcome>,
-    kept: Bytes,
+    kept: Keys,
     failed: bool,
 }
 
@@ -44,18 +61,23 @@ impl Model for Session {
 }
 
 impl Session {
-    ghost use Rattle.std.specs.Prelude.{◌≡◌, ◌≤◌, ◌↔◌, IsTrue, IfOk, OnOk, OnErr, Err, length, option_copied};
+    ghost use Rattle.std.specs.Prelude.{◌≡◌, ◌≤◌, ◌↔◌, false, true, None, IsTrue, IfOk, OnOk, OnErr, Err, length, option_copied};
     ghost use Rattle.std.specs.List.{All};
     ghost use Rattle.cell_grid.specs.Drawable.{AllRowsDrawable};
     ghost use Rattle.cell_grid.specs.Grid.{columns};
     ghost use Rattle.session_core.specs.State.{opened, failed, has_ended, HasFailed};
-    ghost use Rattle.session_core.specs.History.{entry_of};
-    ghost use Rattle.session_core.specs.Next.{again, is_accepted, next, size_after, stepped};
+    ghost use Rattle.session_core.specs.History.{entry_of, history_after};
+    ghost use Rattle.session_core.specs.Next.{again, are_keys_due, flushed_input, flushed_keys, is_accepted, is_input_due};
+    ghost use Rattle.session_core.specs.Next.{next, pieced, size_after, started, stepped, ticked};
     ghost use Rattle.session_core.specs.Draw.{draw, settle, IsSettled};
-    ghost use Rattle.session_core.specs.Keys.{ran};
-    ghost use Rattle.session_core.specs.Windows.{HasCursorInside};
+    ghost use Rattle.session_core.specs.Keys.{kept_behind, pressed, ran_key, ran_keys, typing_of, with_typing};
+    ghost use Rattle.session_core.specs.Typing.{drained};
+    ghost use Rattle.session_core.specs.Wishes.{wanted};
+    ghost use Rattle.prompt_view.specs.Drawing.{HasCursorInside};
+    ghost use Rattle.events.specs.Jobs.{wanted_of};
 
-    /// Returns a session before its first event, with an empty text. The history has its oldest entry first, of which the newest
+    #[tactic(auto, using(crate::proofs::HistoryLemmas::newest_short))]
+    /// Returns a session before its first event, with the text that each prompt begins with. The history has its oldest entry first, of which the newest
     /// 1,000 are kept. The moment is in milliseconds since 1970.
     pub fn new(
         alloc: Global,
@@ -67,22 +89,31 @@ impl Session {
         requires entries { All (λ entry. length entry ≤ 32768) history }
         ensures opened { IfOk result (λ session. session ≡ opened config history size moment) }
     {
+        let lines = history.copy()?;
         let mut history = history.into_vec();
         keep_newest(&mut history);
-        let doc = Doc::new(alloc, Text::new(alloc), 0)?;
-        let message = Text::from_chars(alloc, config.message())?;
-        let prompt = plain_row(alloc, message)?;
+        let text = Text::from_chars(alloc, config.default())?;
+        let buffer = Buffer::new(alloc, lines, text)?;
+        let multiline = config.multiline();
+        let ring = Ring::new(alloc)?;
+        let table = standard_table(alloc)?;
+        let parser = Parser::new(alloc, table)?;
+        let bindings = emacs_bindings(alloc)?;
         Ok(Session {
             alloc,
-            doc,
-            size,
+            bindings,
+            edit: EditState::new(buffer, ring, multiline),
+            parser,
+            held: Held::new(),
             moment,
+            piece_moment: moment,
+            key_moment: moment,
+            size,
+            scroll: Scroll { down: 0, across: 0 },
             config,
             history,
-            prompt,
-            scroll: Scroll { down: 0, across: 0 },
             outcome: None,
-            kept: Bytes::new(alloc),
+            kept: Keys::new(alloc),
             failed: false,
         })
     }
@@ -112,56 +143,210 @@ impl Session {
     #[tactic(auto, unfolding(crate::specs::Next::next))]
     /// Does the step of the event, and scrolls the window to the cursor.
     fn take(&mut self, event: Event) -> Result<(), NoMemory>
+        requires goes_on { self.old.outcome ≡ None }
         ensures next { OnOk result (self.new ≡ next self.old event) }
+        ensures settled { OnOk result (IsSettled self.new) }
+    {
+        self.advance(event)?;
+        self.settle()?;
+        Ok(())
+    }
+
+    /// Does the step of the event.
+    fn advance(&mut self, event: Event) -> Result<(), NoMemory>
+        requires goes_on { self.old.outcome ≡ None }
+        ensures stepped { OnOk result (self.new ≡ stepped self.old event) }
     {
         match event {
-            Event::Start => {
-                let kept = std::mem::replace(&mut self.kept, Bytes::new(self.alloc));
-                self.settle();
-                self.run_keys(kept.as_slice())?;
-            }
-            Event::Piece(bytes) => self.run_keys(bytes.as_slice())?,
+            Event::Start => self.start()?,
+            Event::Piece(bytes) => self.read(bytes.as_slice())?,
+            Event::Tick(moment) => self.tick(moment)?,
             Event::Resize(size) => self.size = size,
-            // no setting asks for the time or for answers yet
-            Event::Tick(_) | Event::Answer(_) => {}
-            Event::End => self.outcome = Some(Outcome::EndOfFile),
+            // no setting asks for answers yet
+            Event::Answer(_) => {}
+            Event::End => {
+                self.parser.clear();
+                self.outcome = Some(Outcome::EndOfFile);
+            }
         }
-        self.settle();
         Ok(())
     }
 
-    #[tactic(auto, using(crate::proofs::TypedLemmas::edited_printable))]
-    /// Runs the keys, of which each byte is one, until one of them ends the prompt. The cost of a key is that of its
-    /// edit and of one walk of the message's cells.
-    fn run_keys(&mut self, bytes: &[u8]) -> Result<(), NoMemory>
-        ensures ran { OnOk result (self.new ≡ ran self.old bytes.now) }
+    #[tactic(auto, unfolding(crate::specs::Next::started))]
+    /// Runs the keys that the prompt before left.
+    fn start(&mut self) -> Result<(), NoMemory>
+        requires goes_on { self.old.outcome ≡ None }
+        ensures started { OnOk result (self.new ≡ started self.old) }
     {
-        for (at, byte) in bytes.iter().enumerate() {
-            if *byte == b'\r' {
-                let text = self.doc.text()?;
-                let kept = Bytes::from_slice(self.alloc, &bytes[at + 1..])?;
-                self.outcome = Some(Outcome::Accepted(text));
-                self.kept = kept;
-                self.settle();
+        let kept = std::mem::replace(&mut self.kept, Keys::new(self.alloc));
+        self.settle()?;
+        self.run_keys(kept)?;
+        Ok(())
+    }
+
+    #[tactic(auto, unfolding(crate::specs::Next::pieced))]
+    /// Reads bytes of the terminal, and runs the keys that they end.
+    fn read(&mut self, bytes: &[u8]) -> Result<(), NoMemory>
+        requires goes_on { self.old.outcome ≡ None }
+        ensures pieced { OnOk result (self.new ≡ pieced self.old bytes.now) }
+    {
+        let keys = self.parser.feed(bytes)?;
+        self.piece_moment = self.moment;
+        self.run_keys(keys)?;
+        Ok(())
+    }
+
+    /// Lets the clock say a moment. What has waited too long waits no more.
+    fn tick(&mut self, moment: u64) -> Result<(), NoMemory>
+        requires goes_on { self.old.outcome ≡ None }
+        ensures ticked { OnOk result (self.new ≡ ticked self.old moment) }
+    {
+        self.moment = self.moment.max(moment);
+        self.flush_input()?;
+        self.flush_keys()?;
+        Ok(())
+    }
+
+    #[tactic(auto, unfolding(crate::specs::Next::flushed_input))]
+    /// Half a second after the last piece, runs the keys of what waits outside a paste.
+    fn flush_input(&mut self) -> Result<(), NoMemory>
+        requires goes_on { self.old.outcome ≡ None }
+        ensures flushed { OnOk result (self.new ≡ flushed_input self.old) }
+    {
+        if !self.is_input_due() {
+            return Ok(());
+        }
+        let keys = self.parser.flush()?;
+        self.run_keys(keys)?;
+        Ok(())
+    }
+
+    fn is_input_due(&self) -> bool
+        ensures { result ≡ is_input_due self.now }
+    {
+        self.parser.holds() && self.moment.saturating_sub(self.piece_moment) >= INPUT_WAITS
+    }
+
+    #[tactic(auto, unfolding(crate::specs::Next::flushed_keys))]
+    /// A second after the last key, does what the keys that are held are bound to.
+    fn flush_keys(&mut self) -> Result<(), NoMemory>
+        ensures flushed { OnOk result (self.new ≡ flushed_keys self.old) }
+    {
+        if !self.are_keys_due() {
+            return Ok(());
+        }
+        self.drain(true)?;
+        if self.outcome.is_some() {
+            let none = Keys::new(self.alloc).into_queue();
+            self.keep_behind(none)?;
+        }
+        Ok(())
+    }
+
+    fn are_keys_due(&self) -> bool
+        ensures { result ≡ are_keys_due self.now }
+    {
+        let waits = self.moment.saturating_sub(self.key_moment) >= KEYS_WAIT;
+        self.outcome.is_none() && !self.held.is_empty() && waits
+    }
+
+    /// Does what the held keys are bound to.
+    fn drain(&mut self, flush: bool) -> Result<(), NoMemory>
+        requires goes_on { self.old.outcome ≡ None }
+        ensures drained { OnOk result (self.new
+            ≡ with_typing self.old (drained flush (typing_of self.old))) }
+    {
+        drain(
+            self.alloc,
+            &mut self.edit,
+            &mut self.held,
+            &mut self.outcome,
+            &self.bindings,
+            flush,
+        )?;
+        Ok(())
+    }
+
+    #[tactic(auto, using(crate::proofs::KeyLemmas::ran_on, crate::proofs::KeyLemmas::ran_last))]
+    /// Runs keys, until one of them ends the prompt. The cost of a key is that of its command, of the bindings, and of the
+    /// lines' cells, which are all built anew.
+    fn run_keys(&mut self, keys: Keys) -> Result<(), NoMemory>
+        requires goes_on { self.old.outcome ≡ None }
+        ensures ran { OnOk result (self.new ≡ ran_keys self.old keys) }
+    {
+        let mut left = keys.into_queue();
+        while let Some(key) = left.pop_front() {
+            self.run_key(key)?;
+            if self.outcome.is_some() {
+                self.keep_behind(left)?;
                 return Ok(());
             }
-            edit(&mut self.doc, *byte)?;
-            self.settle();
         }
         Ok(())
     }
 
-    #[tactic(auto, using(crate::proofs::WindowLemmas::short_prompt))]
-    /// Scrolls the window to the cursor.
-    fn settle(&mut self)
-        ensures settled { self.new ≡ settle self.old }
+    #[tactic(auto, unfolding(crate::specs::Keys::ran_key))]
+    /// Runs a key.
+    fn run_key(&mut self, key: KeyPress) -> Result<(), NoMemory>
+        requires goes_on { self.old.outcome ≡ None }
+        ensures ran { OnOk result (self.new ≡ ran_key self.old key) }
     {
-        self.scroll = settled_scroll(&self.prompt, &self.doc, self.size, self.scroll);
+        self.key_moment = self.moment;
+        self.press(key)?;
+        self.settle()?;
+        Ok(())
     }
 
-    #[tactic(auto, using(crate::proofs::WindowLemmas::short_prompt), unfolding(crate::specs::Draw::draw))]
-    /// Returns the full drawing of the present state: the lesser of the terminal's rows and the rows of the line. Its
-    /// time is one walk of the text and of the window.
+    /// Holds a key, and does what the held keys are bound to.
+    fn press(&mut self, key: KeyPress) -> Result<(), NoMemory>
+        requires goes_on { self.old.outcome ≡ None }
+        ensures drained { OnOk result (self.new
+            ≡ with_typing self.old (drained false (pressed key (typing_of self.old)))) }
+    {
+        self.held.push(key);
+        drain(
+            self.alloc,
+            &mut self.edit,
+            &mut self.held,
+            &mut self.outcome,
+            &self.bindings,
+            false,
+        )?;
+        Ok(())
+    }
+
+    /// Keeps the keys that are held, and these behind them.
+    fn keep_behind(&mut self, keys: Queue<KeyPress>) -> Result<(), NoMemory>
+        ensures kept { OnOk result (self.new ≡ kept_behind self.old keys) }
+    {
+        let kept = keys_behind(self.alloc, &mut self.held, keys)?;
+        self.kept = kept;
+        Ok(())
+    }
+
+    #[tactic(auto, unfolding(crate::specs::Draw::settle, crate::specs::Draw::scene_of))]
+    /// Scrolls the window to the cursor.
+    fn settle(&mut self) -> Result<(), NoMemory>
+        ensures scrolled { OnOk result (self.new ≡ settle self.old) }
+        ensures settled { OnOk result (IsSettled self.new) }
+        ensures outcome { OnOk result (self.new.outcome ≡ self.old.outcome) }
+    {
+        let finished = self.outcome.is_some();
+        let scroll = settled_scroll(
+            self.alloc,
+            &self.config,
+            &self.edit,
+            finished,
+            self.size,
+            self.scroll,
+        )?;
+        self.scroll = scroll;
+        Ok(())
+    }
+
+    #[tactic(auto, unfolding(crate::specs::Draw::draw, crate::specs::Draw::scene_of))]
+    /// Returns the full drawing of the present state: the text with its message, and the bars of an argument and of a search.
+    /// The cells of all lines are built.
     pub fn drawing(&mut self) -> Result<Drawing, NoMemory>
         ensures drawn { IfOk result (λ drawing. drawing ≡ draw self.old) }
         ensures wide { IfOk result (λ drawing. columns drawing.grid ≡ self.old.size.cols) }
@@ -171,7 +356,15 @@ impl Session {
         ensures drawable { IfOk result (λ drawing. AllRowsDrawable drawing.grid) }
         ensures same { self.new ≡ self.old }
     {
-        let drawing = draw_window(self.alloc, &self.prompt, &self.doc, self.size, self.scroll)?;
+        let finished = self.outcome.is_some();
+        let drawing = drawing(
+            self.alloc,
+            &self.config,
+            &self.edit,
+            finished,
+            self.size,
+            self.scroll,
+        )?;
         Ok(drawing)
     }
 
@@ -183,16 +376,30 @@ impl Session {
         ensures again { OnOk result (self.new ≡ again self.old) }
         ensures no_memory { OnErr result (self.new ≡ self.old) }
     {
-        let doc = Doc::new(self.alloc, Text::new(self.alloc), 0)?;
-        if let Some(entry) = self.entry() {
-            let entry = entry.copy()?;
-            self.history.push(entry)?;
-        }
-        keep_newest(&mut self.history);
-        self.doc = doc;
+        let history = self.history_after()?;
+        let lines = Lines::from_vec(Text::copied_all(self.alloc, history.as_slice())?);
+        let text = Text::from_chars(self.alloc, self.config.default())?;
+        let buffer = Buffer::new(self.alloc, lines, text)?;
+        self.history = history;
+        begin_line(&mut self.edit, buffer, self.config.multiline());
         self.scroll = Scroll { down: 0, across: 0 };
         self.outcome = None;
         Ok(())
+    }
+
+    #[tactic(auto, using(crate::proofs::HistoryLemmas::history_short))]
+    /// Returns the history with what the outcome adds to it.
+    fn history_after(&self) -> Result<Vec<Text>, NoMemory>
+        ensures entries { IfOk result (λ entries. entries.items
+            ≡ history_after self.now.history self.now.outcome) }
+        ensures short { IfOk result (λ entries. All (λ entry. length entry ≤ 32768) entries.items) }
+    {
+        let entry = match self.entry() {
+            Some(entry) => Some(entry.copy()?),
+            None => None,
+        };
+        let entries = history_with(self.alloc, self.history.as_slice(), entry)?;
+        Ok(entries)
     }
 
     /// Returns the text that `again` adds to the history: the accepted one, unless it is empty or the newest entry.
@@ -202,6 +409,17 @@ impl Session {
         match &self.outcome {
             Some(Outcome::Accepted(text)) => new_entry(self.history.as_slice(), text),
             _ => None,
+        }
+    }
+
+    #[tactic(auto, unfolding(crate::specs::Wishes::wanted))]
+    /// Returns the request of this kind whose answer is wanted, if one is.
+    pub fn wanted(&self, kind: Kind) -> Option<&Request>
+        ensures wanted { option_copied result ≡ wanted_of kind (wanted self.now) }
+    {
+        // no setting asks for answers yet
+        match kind {
+            Kind::Complete | Kind::Suggest | Kind::Check => None,
         }
     }
 
@@ -229,9 +447,9 @@ impl Session {
 
     /// Returns the text that is being edited, with its cursor and mark.
     pub fn doc(&self) -> &Doc
-        ensures doc { result.now ≡ self.now.doc }
+        ensures doc { result.now ≡ self.now.edit.buffer.doc }
     {
-        &self.doc
+        self.edit.buffer.doc()
     }
 
     /// Returns the size of the terminal.

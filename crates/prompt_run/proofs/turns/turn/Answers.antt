@@ -13,7 +13,7 @@ use Rattle.prompt_run.proofs.turns.turn.Goals as goal
 pub frame-requires-clause-cursor : goal.frame-requires-clause-cursor
 frame-requires-clause-cursor g c = λ going.
     let inside = c.in-Ok-drawing.ensures.cursor c.in-Ok.ensures.settled in
-    record { in_rows = inside.in_rows; in_cols = inside.in_cols }
+    record { in_rows = inside.row; in_cols = inside.col }
 
 pub returns-clause-shows : goal.returns-clause-shows
 returns-clause-shows g c =

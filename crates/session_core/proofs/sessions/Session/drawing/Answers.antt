@@ -1,16 +1,23 @@
--- Each cell of the drawing can be drawn.
-use Rattle.std.proofs.Common.{◌≡◌, sym, subst, rules}
-use Rattle.cell_grid.specs.Drawable.{AllRowsDrawable}
-use Rattle.cell_grid.specs.declared.drawing.Drawing.{Drawing}
-use Rattle.prompt_settings.specs.Settings.{message_of}
-use Rattle.session_core.specs.Draw.{content_by, plain_cells, window_by}
-use Rattle.session_core.proofs.DrawLemmas.{view_drawable}
+-- The drawing is that of the state's scene.
+use Rattle.std.proofs.Common.{◌≡◌, ◌∙◌, Bool, ap, is_some, rules, subst, sym}
+use Rattle.prompt_view.specs.Drawing.{drawing_of}
+use Rattle.prompt_view.specs.Rooms as rooms
+use Rattle.session_core.specs.Draw.{draw, scene_by, IsSettled}
+use Rattle.session_core.specs.Fields.{state_of}
+use Rattle.session_core.proofs.SceneLemmas.{draw_is, settled_is}
 use Rattle.session_core.proofs.sessions.Session.drawing.Goals as goal
 
-pub returns-clause-drawable : goal.returns-clause-drawable
-returns-clause-drawable c =
-    let P : Drawing → Type 0 = λ d. AllRowsDrawable d.grid in
-    let message = message_of c.self.inside.config in
-    let kept : c.self.inside.prompt ≡ plain_cells message = search rules in
-    subst P (sym (c.in_ok-drawing.ensures.drawn message kept))
-    (view_drawable message c.self.inside.doc (window_by (content_by message c.self.inside.doc) c.self.inside.size) c.self.inside.scroll)
+pub returns-clause-drawn : goal.returns-clause-drawn
+returns-clause-drawn c =
+    let i = c.self.inside in
+    let finished : c.is_some-finished.result ≡ is_some i.outcome = search rules in
+    c.in_ok-drawing.ensures.drawn ∙ ap (λ (b : Bool). drawing_of (scene_by i.config i.edit b i.size i.scroll)) finished
+    ∙ draw_is (state_of i) ∙ ap draw c.self.view_is
+
+pub returns-clause-cursor : goal.returns-clause-cursor
+returns-clause-cursor c = λ settled.
+    let i = c.self.inside in
+    let finished : c.is_some-finished.result ≡ is_some i.outcome = search rules in
+    c.in_ok-drawing.ensures.cursor
+    (ap (λ (b : Bool). rooms.settled_scroll (scene_by i.config i.edit b i.size i.scroll)) finished
+    ∙ settled_is (state_of i) (subst IsSettled (sym c.self.view_is) settled))

@@ -1,0 +1,4 @@
+pub mod Asked
+pub mod Command
+pub mod Found
+pub mod Outside
