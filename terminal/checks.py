@@ -2,55 +2,20 @@
 """Runs the built program `prompt` in real pseudo-terminals, and checks what it does there.
 
 Usage: terminal/checks.py [NAME]..        all checks where no name is given
-
-Each check waits up to 20 seconds for what it expects and is judged by nothing else. The program is the one that `rt run`
-left in crates/prompt_main/out, or the one that the variable PROMPT names. Where `screen_show` was built too, what was written
-to each terminal is also obeyed by the product's own model of a terminal, which has to show the same screen. The status is 1
-where a check failed, and 77 where no pseudo-terminal can be had.
 """
 
 import os
 import pathlib
-import shlex
 import shutil
 import signal
 import subprocess
-import sys
-import tempfile
 import time
 
+from checking import PROMPT, Checks, child_of, demand, folder, main, prompt, with_prompt
 from pseudo import PATIENCE, PseudoTerminal, Unmet
 
-TOP = pathlib.Path(__file__).resolve().parent.parent
-PROMPT = os.environ.get("PROMPT", str(TOP / "crates/prompt_main/out/prompt_main"))
-CHECKS = []
-
-
-def check(function):
-    CHECKS.append(function)
-    return function
-
-
-def demand(holds, what):
-    if not holds:
-        raise Unmet(what)
-
-
-def prompt(*words):
-    return " ".join([shlex.quote(PROMPT), *map(shlex.quote, words)])
-
-
-def run(*words, given=b"", **others):
-    """Runs the program without a terminal, and returns what came of it."""
-    return subprocess.run([PROMPT, *words], input=given, capture_output=True, timeout=PATIENCE, start_new_session=True,
-                          check=False, **others)
-
-
-def with_prompt(*words, rows=24, cols=80, before="", behind="", **others):
-    """Starts the program in a terminal, and waits for its first prompt."""
-    terminal = PseudoTerminal(f"{before}{prompt(*words)}{behind}; echo status $?", rows, cols, **others)
-    terminal.expect("the terminal is not raw", terminal.is_raw)
-    return terminal
+CHECKS = Checks()
+check = CHECKS.add
 
 
 def kept_entries(path):
@@ -66,10 +31,6 @@ def kept_entries(path):
     if lines:
         entries.append("".join(lines)[:-1])
     return entries
-
-
-def folder():
-    return tempfile.TemporaryDirectory(prefix="prompt-checks-")
 
 
 # what is typed and drawn
@@ -373,221 +334,7 @@ def history_of_many_at_once():
         demand(sorted(kept_entries(path)) == want, "some entry was parted")
 
 
-# streams that lead elsewhere, and statuses
-
-
-@check
-def size_and_a_stream():
-    done = run("--size", "24x80", given=b"hello\r")
-    demand((done.stdout, done.returncode) == (b"hello\n", 0), f"{done}")
-
-
-@check
-def end_of_a_stream():
-    done = run("--size", "24x80", "--repeat", "2", given=b"one\rtw")
-    demand((done.stdout, done.returncode) == (b"one\n", 1), f"{done}")
-
-
-@check
-def output_to_a_file():
-    with folder() as where:
-        with with_prompt(behind=" > out", folder=where) as terminal:
-            terminal.type("to a file\r")
-            terminal.expect_rows(["> to a file", "status 0", ""])
-            demand(pathlib.Path(where, "out").read_text() == "to a file\n", "the file has something else")
-
-
-@check
-def line_of_a_shell():
-    with PseudoTerminal(f"line=$({prompt()}); echo \"[$line] $?\"") as terminal:
-        terminal.expect_rows([">"], (0, 2))
-        terminal.type("hello\r")
-        terminal.expect_rows(["> hello", "[hello] 0", ""])
-
-
-@check
-def drawing_to_a_file():
-    with folder() as where:
-        with with_prompt(behind=" 2> drawn", folder=where) as terminal:
-            terminal.type("unseen\r")
-            terminal.expect_rows(["unseen", "status 0", ""])
-            demand(b"unseen" in pathlib.Path(where, "drawn").read_bytes(), "nothing was drawn into the file")
-
-
-@check
-def input_from_a_pipe():
-    with PseudoTerminal(f"printf 'piped\\r' | {prompt()}; echo status $?") as terminal:
-        terminal.expect_rows(["> piped", "piped", "status 0", ""])
-        demand(not terminal.is_raw(), "the terminal is raw")
-
-
-@check
-def input_from_a_pipe_that_ends():
-    with PseudoTerminal(f"printf 'pip' | {prompt()}; echo status $?") as terminal:
-        terminal.expect_rows(["> pip", "prompt: cannot read from standard input", "status 3", ""])
-        demand(not terminal.is_raw(), "the terminal is raw")
-
-
-@check
-def output_that_is_full():
-    with with_prompt(behind=" > /dev/full") as terminal:
-        terminal.type("lost\r")
-        terminal.expect_rows(["> lost", "prompt: cannot write to standard output", "status 5", ""])
-
-
-@check
-def drawing_that_is_refused():
-    with PseudoTerminal(f"{prompt()} 2> /dev/full; echo status $?") as terminal:
-        terminal.expect_rows(["status 4", ""])
-        demand(not terminal.is_raw(), "the terminal is raw")
-
-
-@check
-def no_terminal():
-    done = run(given=b"hello\r")
-    demand(done.returncode == 7 and done.stdout == b"", f"{done}")
-    demand(done.stderr == b"prompt: cannot use the terminal: there is no terminal that stty can ask\n", f"{done}")
-
-
-@check
-def size_outside_the_limits():
-    with PseudoTerminal(f"{prompt()}; echo status $?", rows=24, cols=1001) as terminal:
-        terminal.expect_text("status 7")
-        demand("its size is not within 1x1 and 500x1000" in terminal.screen.texts()[0], f"{terminal.screen.texts()[0]}")
-        demand(not terminal.is_raw(), "the terminal is raw")
-
-
-@check
-def unknown_words():
-    usage = "usage: prompt [--name value]...\n"
-    for words, sentence in [
-        (["--siz", "3x4"], "prompt: --siz: no option of prompt, see prompt --help\n"),
-        (["--size", "24 80"], "prompt: --size: rows x columns, as 24x80\n"),
-        (["--repeat", "0"], "prompt: --repeat: a number of lines, 1 to 100\n"),
-        (["--size=3x4", "--size=3x4"], "prompt: --size: stands once\n"),
-        (["--help", "--size", "3x4"], "prompt: --help: stands alone\n"),
-    ]:
-        done = run(*words)
-        demand((done.returncode, done.stdout) == (2, b""), f"{done}")
-        demand(done.stderr.decode() == sentence + usage, f"{words}: {done.stderr.decode()!r}")
-
-
-@check
-def word_that_is_no_text():
-    done = run("--message", b"\xff")
-    demand((done.returncode, done.stdout) == (2, b""), f"{done}")
-    demand(done.stderr == b"prompt: word 2: not UTF-8\nusage: prompt [--name value]...\n", f"{done}")
-
-
-@check
-def help_and_version():
-    done = run("--help")
-    demand((done.returncode, done.stderr) == (0, b""), f"{done}")
-    for word in (b"--message", b"--repeat", b"--history", b"--size", b"--help", b"--version", b"return", b"130"):
-        demand(word in done.stdout, f"--help says nothing of {word!r}")
-    done = run("--version")
-    demand(done.returncode == 0 and done.stdout.startswith(b"prompt "), f"{done}")
-
-
-# how the terminal is left
-
-
-def child_of(pid):
-    """Returns the program that a shell runs."""
-    until = time.monotonic() + PATIENCE
-    while time.monotonic() < until:
-        for number in pathlib.Path(f"/proc/{pid}/task/{pid}/children").read_text().split():
-            if os.path.realpath(f"/proc/{number}/exe") == os.path.realpath(PROMPT):
-                return int(number)
-    raise Unmet("the shell runs no prompt")
-
-
-def state_of(pid):
-    """Returns the letter for what a process does, or none where it is gone."""
-    try:
-        return pathlib.Path(f"/proc/{pid}/stat").read_text().rsplit(")", 1)[1].split()[0]
-    except FileNotFoundError:
-        return ""
-
-
-def is_there(pid):
-    return state_of(pid) not in ("", "Z")
-
-
-@check
-def settings_are_given_back():
-    with folder() as where:
-        words = f"stty -ixon; stty -g > before; {prompt()}; stty -g > after; echo done"
-        with PseudoTerminal(words, folder=where) as terminal:
-            terminal.expect("the terminal is not raw", terminal.is_raw)
-            terminal.type("x\r")
-            terminal.expect_text("done")
-            before, after = (pathlib.Path(where, name).read_text() for name in ("before", "after"))
-            demand(before == after, f"{before} became {after}")
-            for reset in (b"\x1b[0m", b"\x1b[?7h", b"\x1b[?25h", b"\x1b[?2004l"):
-                demand(reset in terminal.written, f"{reset} was not written")
-
-
-def killed(number):
-    with with_prompt() as terminal:
-        terminal.type("ab")
-        terminal.expect_rows(["> ab"], (0, 4))
-        os.kill(child_of(terminal.pid), number)
-        terminal.expect("the terminal stays raw", lambda: not terminal.is_raw())
-        terminal.expect("rows don't wrap", lambda: terminal.screen.wraps and terminal.screen.shows_cursor)
-
-
-@check
-def in_the_background():
-    with PseudoTerminal(f"set -m; {prompt()} & read line; fg > /dev/null; echo status $?") as terminal:
-        pid = child_of(terminal.pid)
-        terminal.expect("the program goes on", lambda: state_of(pid) == "T")
-        demand(not terminal.is_raw(), "the terminal is raw")
-        terminal.type("go\n")
-        terminal.expect("the terminal is not raw", terminal.is_raw)
-        terminal.type("x\r")
-        terminal.expect_text("status 0")
-
-
-@check
-def killed_by_term():
-    killed(signal.SIGTERM)
-
-
-@check
-def killed_by_kill():
-    killed(signal.SIGKILL)
-
-
-@check
-def killed_while_it_leads_the_session():
-    with PseudoTerminal(f"exec {prompt()}") as terminal:
-        terminal.expect("the terminal is not raw", terminal.is_raw)
-        os.kill(terminal.pid, signal.SIGKILL)
-        terminal.expect("the terminal stays raw", lambda: not terminal.is_raw())
-
-
-def vanished(before):
-    with with_prompt(before=before) as terminal:
-        pid = child_of(terminal.pid)
-        terminal.type("ab")
-        terminal.expect_rows(["> ab"], (0, 4))
-        os.close(terminal.end)
-        terminal.end = None
-        until = time.monotonic() + PATIENCE
-        while is_there(pid) and time.monotonic() < until:
-            time.sleep(0.05)
-        demand(not is_there(pid), "the program goes on")
-
-
-@check
-def terminal_that_vanishes():
-    vanished("")
-
-
-@check
-def terminal_that_vanishes_without_a_signal():
-    vanished("trap '' HUP; ")
+# what it costs
 
 
 @check
@@ -661,28 +408,5 @@ def tmux():
         subprocess.run([*tmux_words, "kill-server"], capture_output=True, check=False)
 
 
-def main():
-    names = sys.argv[1:]
-    if not os.access(PROMPT, os.X_OK):
-        sys.exit("no built program: run `rt run < stdin` in crates/prompt_main first")
-    try:
-        os.close(os.open("/dev/ptmx", os.O_RDWR | os.O_NOCTTY))
-    except OSError as fault:
-        print(f"no pseudo-terminal can be had: {fault}")
-        sys.exit(77)
-    failed = 0
-    chosen = [function for function in CHECKS if not names or function.__name__ in names]
-    for function in chosen:
-        name = function.__name__.replace("_", " ")
-        try:
-            function()
-            print(f"ok      {name}", flush=True)
-        except Exception as fault:
-            failed += 1
-            print(f"FAILED  {name}: {type(fault).__name__}: {fault}", flush=True)
-    print(f"{len(chosen) - failed} checks passed, {failed} failed")
-    sys.exit(1 if failed else 0)
-
-
 if __name__ == "__main__":
-    main()
+    main(CHECKS)

@@ -42,6 +42,8 @@ class PseudoTerminal:
                 fcntl.ioctl(0, termios.TIOCSWINSZ, struct.pack("HHHH", rows, cols, 0, 0))
                 if folder:
                     os.chdir(folder)
+                for number in (signal.SIGHUP, signal.SIGINT, signal.SIGQUIT, signal.SIGTERM, signal.SIGPIPE):
+                    signal.signal(number, signal.SIG_DFL)
                 os.execvpe("sh", ["sh", "-c", words], {**os.environ, **(environment or {})})
             finally:
                 os._exit(127)

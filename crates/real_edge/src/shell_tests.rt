@@ -8,7 +8,7 @@ use ports::Tty;
 use std::alloc::{AllocError, Allocator, Global};
 use std::cell::RefCell;
 use std::io;
-use std::io::{Cursor, Empty, ErrorKind, IsTerminal, Read, Sink, Write};
+use std::io::{Cursor, Empty, ErrorKind, IsTerminal, Read, Write};
 use std::os::unix::process::ExitStatusExt;
 use std::process::{Child, Command, ExitStatus, OpenProcess, Processes, Stdio};
 use std::rc::Rc;
@@ -19,11 +19,13 @@ use std::time::Duration;
 /// A program that has printed its answer and ends as it is told.
 #[derive(Drop)]
 struct Ended {
+    number: usize,
     status: i32,
+    record: Record,
 }
 
 impl OpenProcess for Ended {
-    type Stdin = Sink;
+    type Stdin = Words;
 
     type Stdout = Cursor<Vec<u8>>;
 
@@ -34,15 +36,42 @@ impl OpenProcess for Ended {
     }
 
     fn wait(&mut self) -> io::Result<ExitStatus> {
+        let Ok(mut seen) = self.record.seen.try_borrow_mut() else {
+            return Err(io::Error::from(ErrorKind::Other));
+        };
+        let number = self.number;
+        write!(seen.course, "end {number};")?;
         Ok(ExitStatus::from_raw(self.status))
     }
 }
 
-/// What was started, each program with its arguments, and what was written to the terminal.
+/// The input of a program, whose words are kept in the course of a test.
+#[derive(Drop)]
+struct Words {
+    record: Record,
+}
+
+impl Write for Words {
+    fn write(&mut self, buf: &[u8]) -> io::Result<usize> {
+        let Ok(mut seen) = self.record.seen.try_borrow_mut() else {
+            return Err(io::Error::from(ErrorKind::Other));
+        };
+        seen.course.extend_from_slice(buf)?;
+        Ok(buf.len())
+    }
+
+    fn flush(&mut self) -> io::Result<()> {
+        Ok(())
+    }
+}
+
+/// What was started, each program with its arguments, what was written to the terminal, and in which order programs were
+/// told words and came to their ends.
 #[derive(Drop)]
 struct Seen {
     started: Vec<String>,
     written: Vec<u8>,
+    course: Vec<u8>,
 }
 
 /// A record that a test keeps while others add to it.
@@ -56,6 +85,7 @@ impl Record {
         let seen = RefCell::new(Seen {
             started: Vec::new(alloc),
             written: Vec::new(alloc),
+            course: Vec::new(alloc),
         });
         Ok(Record {
             seen: Rc::new(alloc, seen).map_err(AllocError::from)?,
@@ -87,6 +117,14 @@ impl Record {
                 Some(line) => line.as_str().contains(part),
                 None => false,
             },
+            Err(_) => false,
+        }
+    }
+
+    /// Tells whether programs were told words and ended in this order.
+    fn has_course(&self, want: &[u8]) -> bool {
+        match self.seen.try_borrow() {
+            Ok(seen) => seen.course.as_slice() == want,
             Err(_) => false,
         }
     }
@@ -130,17 +168,24 @@ struct Stage {
 
 impl Stage {
     fn new(record: Record, alloc: Global, answers: &[(i32, &str)]) -> Result<Stage, AllocError> {
-        let mut owned = Vec::new(alloc);
-        for (status, text) in answers {
-            owned.push(Answer {
-                status: *status,
-                text: Vec::from_slice(alloc, text.as_bytes())?,
-            })?;
-        }
-        Ok(Stage {
-            answers: owned,
+        let mut stage = Stage {
+            answers: Vec::new(alloc),
             record,
-        })
+        };
+        for (status, text) in answers {
+            stage.add(*status, text)?;
+        }
+        Ok(stage)
+    }
+
+    /// Adds the answer of one more program.
+    fn add(&mut self, status: i32, text: &str) -> Result<(), AllocError> {
+        let alloc = *self.answers.allocator();
+        self.answers.push(Answer {
+            status,
+            text: Vec::from_slice(alloc, text.as_bytes())?,
+        })?;
+        Ok(())
     }
 }
 
@@ -178,18 +223,30 @@ impl Processes for Stage {
         match self.answers.get(number) {
             Some(answer) => {
                 let child = Ended {
+                    number,
                     status: answer.status,
+                    record: self.record.share()?,
+                };
+                let words = Words {
+                    record: self.record.share()?,
                 };
                 let printed = Cursor::new(Vec::from_slice(alloc, answer.text.as_slice())?);
-                Ok(Child::from_parts(child, None, Some(printed), None))
+                Ok(Child::from_parts(child, Some(words), Some(printed), None))
             }
             None => Err(io::Error::from(ErrorKind::NotFound)),
         }
     }
 }
 
-const GUARD: &str =
-    "trap '' INT TERM HUP QUIT TSTP TTIN TTOU PIPE; stty raw -echo min 0 time 1 < \"$2\" || exit 1; echo ready; read -r word; [ \"$word\" = left ] && exit 0; printf '\\033[0m\\033[?7h\\033[?25h\\033[?2004l' >&2; stty \"$1\" < \"$2\"";
+/// The words of a guard's shell.
+const GUARD: &str = concat!(
+    "trap '' INT TERM HUP QUIT TSTP TTIN TTOU PIPE; exec 3<> \"$2\"; ",
+    "stty raw -echo min 0 time 1 <&3 || exit 1; raw=$(stty -g <&3); echo ready; ",
+    "read -r word; [ \"$word\" = left ] && exit 0; ",
+    "printf '\\033[0m\\033[?7h\\033[?25h\\033[?2004l' >&2; ",
+    "for time in 1 2 3 4; do [ \"$(stty -g <&3)\" = \"$raw\" ] || exit 0; done; ",
+    "stty \"$1\" <&3",
+);
 
 #[test]
 fn enters_and_leaves_by_stty(rt: HostRuntime) -> Result<(), Fail> {
@@ -212,6 +269,72 @@ fn enters_and_leaves_by_stty(rt: HostRuntime) -> Result<(), Fail> {
     assert!(rt; record.told(1, guard.as_str()));
     assert!(rt; record.told(2, "sh|-c|stty \"$1\" < /dev/tty|sh|500:5:bf"));
     assert!(rt; !record.asks(3, ""));
+    assert!(rt; record.has_course(b"end 0;end 2;left\nend 1;"));
+    Ok(())
+}
+
+#[test]
+fn leaves_the_settings_to_the_guard(rt: HostRuntime) -> Result<(), Fail> {
+    let record = Record::new(rt.alloc())?;
+    let answers = [
+        (0, "500:5:bf\n30 100\n/dev/pts/7\n"),
+        (0, "ready\n"),
+        (256, ""),
+    ];
+    let stage = Stage::new(record.share()?, rt.alloc(), &answers)?;
+    let mut tty = SttyTty::new(stage, rt.alloc(), record.share()?);
+    tty.enter()?;
+    assert!(rt; tty.leave().is_err());
+    assert_eq!(rt; tty.fault(), Some(TtyFault::NotLeft));
+    assert!(rt; record.has_course(b"end 0;end 2;end 1;"));
+    Ok(())
+}
+
+/// The words by which the terminal is made raw without a guard.
+const RAW: &str = "sh|-c|stty raw -echo min 0 time 1 < /dev/tty|sh|";
+
+#[test]
+fn enters_where_guards_are_refused(rt: HostRuntime) -> Result<(), Fail> {
+    let guard = format!(in rt.alloc(); "sh|-c|{GUARD}|guard|500:5:bf|/dev/tty")?;
+    let guard = guard.as_str();
+    let known = "500:5:bf\n30 100\n/dev/pts/7\n";
+    let unknown = "500:5:bf\n30 100\n";
+    let cases: [(&[(i32, &str)], usize, &str, &[u8]); 4] = [
+        (
+            &[(0, known), (256, ""), (0, "ready\n")],
+            2,
+            guard,
+            b"end 0;end 1;end 3;left\nend 2;",
+        ),
+        (
+            &[(0, unknown), (0, "ready\n")],
+            1,
+            guard,
+            b"end 0;end 2;left\nend 1;",
+        ),
+        (
+            &[(0, known), (256, ""), (256, "rea"), (0, "")],
+            3,
+            RAW,
+            b"end 0;end 1;end 2;end 3;end 4;",
+        ),
+        (
+            &[(0, unknown), (256, ""), (0, "")],
+            2,
+            RAW,
+            b"end 0;end 1;end 2;end 3;",
+        ),
+    ];
+    for (answers, number, words, course) in cases {
+        let record = Record::new(rt.alloc())?;
+        let mut stage = Stage::new(record.share()?, rt.alloc(), answers)?;
+        stage.add(0, "")?;
+        let mut tty = SttyTty::new(stage, rt.alloc(), record.share()?);
+        tty.enter()?;
+        tty.leave()?;
+        assert!(rt; record.told(number, words), "{words}");
+        assert!(rt; record.has_course(course), "{words}");
+    }
     Ok(())
 }
 
@@ -293,6 +416,20 @@ fn polls_a_silent_terminal(rt: HostRuntime) -> Result<(), Fail> {
     Ok(())
 }
 
+/// A clock that tells no moment.
+#[derive(Drop)]
+struct Silence;
+
+impl Clock for Silence {
+    fn monotonic(&self) -> io::Result<Duration> {
+        Err(io::Error::from(ErrorKind::Other))
+    }
+
+    fn since_1970(&self) -> io::Result<Duration> {
+        Err(io::Error::from(ErrorKind::Other))
+    }
+}
+
 #[test]
 fn enters_a_given_size(rt: HostRuntime) -> Result<(), Fail> {
     let record = Record::new(rt.alloc())?;
@@ -304,5 +441,6 @@ fn enters_a_given_size(rt: HostRuntime) -> Result<(), Fail> {
     assert_eq!(rt; entered.moment, 1_700_000_000_123);
     tty.leave()?;
     assert!(rt; !record.asks(0, ""));
+    assert!(rt; FixedTty::new(Silence, size).enter().is_err());
     Ok(())
 }

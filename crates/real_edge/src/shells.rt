@@ -66,6 +66,9 @@ const QUESTION: &str = concat!(
     "[ \"$(stty -g < $name)\" = \"$settings\" ] && echo $name; exit 0",
 );
 
+/// The terminal is made raw by these words of a shell where no guard does it.
+const RAW: &str = "stty raw -echo min 0 time 1 < /dev/tty";
+
 /// Gives the settings back by these words of a shell, of which they are the first argument.
 const SETTINGS: &str = "stty \"$1\" < /dev/tty";
 
@@ -137,6 +140,15 @@ fn read_size(text: &str) -> Option<Size> {
         return Size::new(24, 80);
     }
     Size::new(rows, cols)
+}
+
+/// Makes the terminal raw, so that each byte that is typed comes at once, and a read waits a tenth of a second for one.
+pub(crate) fn set_raw<R: Processes>(rt: &R, alloc: Global) -> Result<(), TtyFault> {
+    match run_shell(rt, alloc, RAW, "") {
+        Ok(_) => Ok(()),
+        Err(TtyFault::NoMemory) => Err(TtyFault::NoMemory),
+        Err(_) => Err(TtyFault::NotRaw),
+    }
 }
 
 /// Gives the terminal these settings.

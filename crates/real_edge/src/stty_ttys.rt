@@ -3,7 +3,7 @@ ghost use Rattle.std.specs.Prelude.{◌≡◌, ◌≤◌, Some};
 ghost use Rattle.causes.specs.Faults.{Rose};
 
 use crate::clocks::{copy_of, present_moment};
-use crate::guards::Guard;
+use crate::guards::{Guard, make_raw};
 use crate::shells::{TtyFault, ask, give_settings};
 use ports::{Entered, Failed, Mode, Tty};
 use std::alloc::Global;
@@ -79,7 +79,7 @@ impl<R: Processes + Clock + Drop, W: Write + Drop> Tty for SttyTty<R, W> {
         match try_enter(&self.rt, self.alloc) {
             Ok((entered, settings, guard)) => {
                 self.settings = Some(settings);
-                self.guard = Some(guard);
+                self.guard = guard;
                 self.mode = Mode::Raw;
                 self.count = self.count.saturating_add(1);
                 self.last = Some(copy_of(&entered));
@@ -90,16 +90,15 @@ impl<R: Processes + Clock + Drop, W: Write + Drop> Tty for SttyTty<R, W> {
     }
 
     /// Ends what was drawn and gives the settings back, each also where the other fails. Where both went well the guard is
-    /// told so; else it gives the settings back once more.
+    /// told so; else it gives the settings back once more. Either way it has ended behind this.
     fn leave(&mut self) -> Result<(), Failed> {
         let ended = self.out.write_all(RESET).is_ok() && self.out.flush().is_ok();
         let given = try_leave(&self.rt, self.alloc, &self.settings).is_ok();
-        let guard = self.guard.take();
+        if let Some(guard) = self.guard.take() {
+            let _ = guard.end(ended && given);
+        }
         if !ended || !given {
             return Err(self.fail(TtyFault::NotLeft));
-        }
-        if let Some(guard) = guard {
-            let _ = guard.stop();
         }
         self.mode = Mode::Cooked;
         Ok(())
@@ -110,14 +109,14 @@ impl<R: Processes + Clock + Drop, W: Write + Drop> Tty for SttyTty<R, W> {
 fn try_enter<R: Processes + Clock>(
     rt: &R,
     alloc: Global,
-) -> Result<(Entered, String, Guard<R>), TtyFault> {
+) -> Result<(Entered, String, Option<Guard<R>>), TtyFault> {
     let Ok(moment) = present_moment(rt) else {
         return Err(TtyFault::NoClock);
     };
     let answer = ask(rt, alloc)?;
     let settings = answer.settings;
     let name = answer.name.as_ref().map(|name| name.as_str());
-    let guard = Guard::start(rt, alloc, settings.as_str(), name)?;
+    let guard = make_raw(rt, alloc, settings.as_str(), name)?;
     let entered = Entered {
         size: answer.size,
         moment,
