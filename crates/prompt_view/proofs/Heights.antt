@@ -1,5 +1,5 @@
 -- A drawing is no higher than the screen, whatever the screen's size.
-use Rattle.std.proofs.Common.{Bool, true, false, if◌then◌else◌, ◌≤◌, List, [], ◌∷◌, length, arith}
+use Rattle.std.proofs.Common.{Bool, true, false, if◌then◌else◌, ◌≤◌, [], ◌∷◌, length, arith}
 use Rattle.std.proofs.lemmas.List.FromFn.{length-map-range_with_len}
 use Rattle.box_layout.specs.Areas.{whole}
 use Rattle.box_layout.specs.Painting.{painted, shown_cells}

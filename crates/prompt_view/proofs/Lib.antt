@@ -1,5 +1,7 @@
+pub mod ClosedForm
 pub mod Counts
 pub mod Cursors
+pub mod Divisions
 pub mod DrawableCells
 pub mod DrawableScenes
 pub mod DrawableWindows

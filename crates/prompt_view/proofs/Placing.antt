@@ -30,7 +30,7 @@ use Rattle.prompt_view.specs.Scene.{SceneFields}
 pub few_in_box : (pane : PaneFields) (floats : List Float) → HasFewChildren (FloatBox (Window pane) floats)
 few_in_box pane floats = subst (λ (fact : Type 0). fact) (sym (few_at_FloatBox (Window pane) floats ∙ few_at_Window pane)) tt
 
-window_gives : (done : Bool) (pane : PaneFields) (area : Area) (answer : Option (List PlacedFields)) → Boxes done (Window pane) area answer → answer ≡ Some (placed_at pane area ∷ [])
+pub window_gives : (done : Bool) (pane : PaneFields) (area : Area) (answer : Option (List PlacedFields)) → Boxes done (Window pane) area answer → answer ≡ Some (placed_at pane area ∷ [])
 window_gives done pane area answer gives = subst (λ (means : Meaning). means area answer) (boxes_Window done pane) gives
 
 by_inner : (done : Bool) (pane : PaneFields) (floats : List Float) (area : Area) (answer : Option (List PlacedFields)) → (Boxes done (Window pane) area None × (answer ≡ None)) ⊎ ((under : List PlacedFields) × Boxes done (Window pane) area (Some under) × (answer ≡ Some (with_floats area under floats))) → answer ≡ Some (with_floats area (placed_at pane area ∷ []) floats)

@@ -8,6 +8,7 @@ mod drawing_cases;
 mod drawing_tests;
 mod drawings;
 mod floats;
+pub mod laws;
 mod lines;
 mod menus;
 mod panes;

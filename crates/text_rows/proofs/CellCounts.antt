@@ -61,7 +61,7 @@ length-with_chars attrs control cells (c ∷ cs) =
     omega (arith, length-with_chars attrs control (with_next attrs control cells c) cs, length-with_next attrs control cells c, sum_by-cons cells_for c cs)
 
 -- the three parts of a line are the line
-three_parts : (from to : ℕ) (line : List ℕ) → from ≤ to → take from line ++ (slice_range line from to ++ drop to line) ≡ line
+pub three_parts : (from to : ℕ) (line : List ℕ) → from ≤ to → take from line ++ (slice_range line from to ++ drop to line) ≡ line
 three_parts from to line ordered =
     let all : from + (to - from) ≡ to = omega (arith, ordered) in
     let back : drop to line ≡ drop (to - from) (drop from line) = sym (drop-drop (to - from) from line ∙ ap (λ n. drop n line) all) in

@@ -1,4 +1,11 @@
 pub mod CellCounts
-pub mod LineCuts
+pub mod ChangeLemmas
+pub mod FlowLemmas
+pub mod KeptCounts
+pub mod LayingLemmas
 pub mod LineCells
+pub mod LineCuts
+pub mod MarkLemmas
 pub mod PlacesWithin
+pub mod RowTotals
+pub mod WholeLines

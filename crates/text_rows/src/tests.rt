@@ -113,14 +113,14 @@ fn line_of(
     Ok(row)
 }
 
-fn cells_of(alloc: Global, words: &str) -> Result<CellRow, NoMemory> {
+pub fn cells_of(alloc: Global, words: &str) -> Result<CellRow, NoMemory> {
     let text = Text::read_str(alloc, words)?;
     let mut row = CellRow::new(alloc);
     row.push_chars(text.as_slice(), Attrs::plain(), Attrs::plain())?;
     Ok(row)
 }
 
-fn is_drawn(drawn: &DrawnText) -> bool
+pub fn is_drawn(drawn: &DrawnText) -> bool
     ensures { IsTrue result → IsDrawnText drawn.now }
 {
     drawn.message.len() <= 1000
