@@ -1,5 +1,5 @@
 -- How a run over an outside comes from play to play, and where it stops.
-use Rattle.std.proofs.Common.{◌≡◌, ℕ, ◌+◌, ◌-◌, ◌<◌, zero, suc, Bool, true, false, List, [], ◌∷◌, ◌++◌, length, drop, is_some, Option, if◌then◌else◌, refl, ap, sym, ◌∙◌, subst, append-nil, append_assoc}
+use Rattle.std.proofs.Common.{◌≡◌, ℕ, ◌+◌, ◌-◌, ◌<◌, zero, suc, Bool, true, false, List, [], ◌∷◌, ◌++◌, length, drop, is_some, Option, if◌then◌else◌, refl, ap, sym, ◌∙◌, subst, arith, append-nil, append_assoc}
 use Rattle.std.proofs.KnownBytes.{Appends-nil, Appends-trans}
 use Rattle.std.specs.Io.{StartsWith}
 use Rattle.std.specs.Io.KnownBytes.{Appends}
@@ -7,20 +7,23 @@ use Rattle.std.proofs.lemmas.List.{take-append-drop}
 use Rattle.causes.specs.Chain.{Chain}
 use Rattle.cell_grid.specs.Size.{IsScreen}
 use Rattle.diff_render.specs.Frames.{screen_after}
+use Rattle.events.specs.Jobs.{Wanted}
 use Rattle.events.specs.declared.events.Event.{Event}
 use Rattle.events.specs.declared.events.Event.TheVariants.{Start}
 use Rattle.prompt_settings.specs.Settings.{repeat_of}
 use Rattle.session_core.specs.Draw.{draw}
 use Rattle.session_core.specs.Next.{again, is_accepted, next}
 use Rattle.session_core.specs.State.{State, has_ended}
+use Rattle.session_core.specs.Wishes.{wanted}
 use Rattle.term_model.specs.Obeying.{obeyed_bytes}
 use Rattle.term_model.specs.Term.{Term}
-use Rattle.prompt_run.specs.Course.{AppendsFront, CameTo, GoesOn, HasShown, IsFront, LeadsTo, LeavesKept, LeavesLines, LeavesScreen, StoppedAt, Stops, present_state, reopened_state, with_events}
+use Rattle.prompt_run.specs.Course.{AppendsFront, Around, CameTo, GoesOn, HasShown, HasTurned, IsFront, LeadsTo, LeavesKept, LeavesLines, LeavesScreen, StoppedAt, Stops, around, present_state, reopened_state, with_events}
 use Rattle.prompt_run.specs.FramesShown.{FramesShow, obeying}
 use Rattle.prompt_run.specs.Play.{Play, accepted, done, done_by, followed, lines_left, new_entry, with_event}
-use Rattle.prompt_run.specs.Run.{Run, ran_on, reopened, shown_at, terminal_at, waiting_run}
-use Rattle.prompt_run.specs.Showing.{LeadOnEach, ShowOnEach, ShowsRun}
+use Rattle.prompt_run.specs.Run.{Run, ran_on, reopened, shown_at, terminal_at}
+use Rattle.prompt_run.specs.Showing.{Beginning, LeadOnEach, ShowOnEach, ShowsRun}
 use Rattle.prompt_run.specs.Turn.{GivesState, ShowsState}
+use Rattle.prompt_run.specs.Wishes.{AreHeld, HoldWanted}
 use Rattle.prompt_run.specs.declared.runners.RunFault.{RunFault}
 use Rattle.prompt_run.specs.declared.runners.RunFault.TheVariants.{Inbox, Screen, Keeper, NoMemory}
 use Rattle.prompt_run.specs.declared.runners.Runner.{Runner}
@@ -64,6 +67,22 @@ pub leads_done : (p : Play) (event : Event) → has_ended p.run.state ≡ false 
 leads_done p event on =
     leads_same (with_event p event) _ (done p event) (leads_followed (lines_left (with_event p event)) (with_event p event)) (done_on p event on)
 
+-- the events so far, and those that led on
+pub events_behind : (p : Play) (events : List Event) → (with_events p events).events ≡ p.events ++ events
+events_behind p [] = sym (append-nil p.events)
+events_behind p (event ∷ events) = events_behind (with_event p event) events ∙ append_assoc p.events (event ∷ []) events
+
+-- behind an event at least one turn was made
+pub turned_behind : (p q : Play) (event : Event) → LeadsTo (with_event p event) q → HasTurned q
+turned_behind p q event leads =
+    let all : q.events ≡ p.events ++ event ∷ leads.0 =
+    ap (λ (x : Play). x.events) leads.1 ∙ events_behind (with_event p event) leads.0 ∙ append_assoc p.events (event ∷ []) leads.0 in
+    subst (λ (events : List Event). 0 < length events) (sym all) (some_more p.events event leads.0)
+  where
+    some_more : (before : List Event) (event : Event) (behind : List Event) → 0 < length (before ++ event ∷ behind)
+    some_more [] event behind = omega arith
+    some_more (first ∷ before) event behind = omega arith
+
 -- ---- frames
 
 pub chain_more : {S A : Type 0} (took : S → A → S → Type 0) (first : S) (things : List A) (before : S) (thing : A) (now : S)
@@ -81,18 +100,18 @@ pub record DidTurn {S : Type 0} (took : S → List ℕ → S → Type 0) (event 
   pub shown : new.shown ≡ screen_after (is_some new.session.outcome) (draw new.session) new.session.size
 
 -- the terminal that showed the run shows it behind the event
-pub record ShowsOn (p : Play) (event : Event) (told : Runner) (t : Term) (frames : List (List ℕ)) : Type 0 where
+pub record ShowsOn (p : Play) (event : Event) (told : Runner) (t : Term) (r : Run) (frames : List (List ℕ)) : Type 0 where
   pub end : Term
   pub last : Run
-  pub show : FramesShow t (waiting_run p.first.state t) (p.events ++ event ∷ []) frames end last
+  pub show : FramesShow t r (p.events ++ event ∷ []) frames end last
   pub shows : ShowsRun told.shown end last
   pub same : last.state ≡ next (reopened_state p) event
 
 shows_on : {S : Type 0} (took : S → List ℕ → S → Type 0) (p : Play) (event : Event) (old new : Runner) (before now : S) (frames : List (List ℕ))
-    → old.session ≡ reopened_state p → (did : DidTurn took event old new before now) → (t : Term) (end : Term) (last : Run)
-    → FramesShow t (waiting_run p.first.state t) p.events frames end last → ShowsRun old.shown end last → last.state ≡ p.run.state
-    → ShowsOn p event new t (frames ++ did.gives.0 ∷ [])
-shows_on took p event old new before now frames found did t end last show shows same =
+    → old.session ≡ reopened_state p → (did : DidTurn took event old new before now) → (t : Term) (first : Run) (end : Term) (last : Run)
+    → FramesShow t first p.events frames end last → ShowsRun old.shown end last → last.state ≡ p.run.state
+    → ShowsOn p event new t first (frames ++ did.gives.0 ∷ [])
+shows_on took p event old new before now frames found did t first end last show shows same =
     let r : Run = reopened last in
     let frame : List ℕ = did.gives.0 in
     let met : r.state ≡ reopened_state p = same_reopened last p.run same in
@@ -111,54 +130,56 @@ shows_on took p event old new before now frames found did t end last show shows 
     record {
       end = obeying end last event frame;
       last = ran_on last event;
-      show = frames-more t (waiting_run p.first.state t) p.events frames end last event frame show drawn.ends on.agrees;
+      show = frames-more t first p.events frames end last event frame show drawn.ends on.agrees;
       shows = on;
       same = ap (λ s. next s event) met;
     }
 
 -- so one frame more was taken and shown
-pub shown_more : {S : Type 0} (took : S → List ℕ → S → Type 0) (p : Play) (event : Event) (old new : Runner) (first before now : S)
-    → HasShown took p old first before → old.session ≡ reopened_state p → DidTurn took event old new before now → HasShown took (with_event p event) new first now
-shown_more took p event old new first before now had found did = record {
+pub shown_more : {S : Type 0} (took : S → List ℕ → S → Type 0) (from : Beginning) (p : Play) (event : Event) (old new : Runner) (first before now : S)
+    → HasShown took from p old first before → old.session ≡ reopened_state p → DidTurn took event old new before now
+    → HasShown took from (with_event p event) new first now
+shown_more took from p event old new first before now had found did = record {
   frames = had.frames ++ did.gives.0 ∷ [];
   taken = chain_more took first had.frames before did.gives.0 now had.taken did.gives.1;
-  show = λ t terminal tall wide.
-      let was = had.show t terminal tall wide in
-      let on = shows_on took p event old new before now had.frames found did t was.0 was.1 was.2 was.3 was.4 in
+  show = λ t r here.
+      let was = had.show t r here in
+      let on = shows_on took p event old new before now had.frames found did t r was.0 was.1 was.2 was.3 was.4 in
       (on.end, on.last, on.show, on.shows, on.same);
 }
 
 -- ---- a run that goes on
 
--- what an event did to a runner and its outside
-pub record DidEvent {S : Type 0} (took : S → List ℕ → S → Type 0) (event : Event) (old new : Runner) (before now : S) (kept_before kept_now : Option (List ℕ))
-    : Type 0 where
-  pub turn : DidTurn took event old new before now
+-- what an event did to a runner and what is around it
+pub record DidEvent {S : Type 0} (took : S → List ℕ → S → Type 0) (event : Event) (old new : Runner) (before now : Around S) : Type 0 where
+  pub turn : DidTurn took event old new before.screen now.screen
   pub repeat : new.repeat ≡ old.repeat
   pub answers : new.answers ≡ old.answers ++ accepted new.session.outcome
-  pub kept : Appends kept_before kept_now (new_entry new.session)
+  pub kept : Appends before.kept now.kept (new_entry new.session)
+  pub held : AreHeld old.told before.jobs → AreHeld new.told now.jobs
+  pub told : AreHeld old.told before.jobs → HoldWanted now.jobs (wanted new.session)
 
-pub came_more : {S : Type 0} (took : S → List ℕ → S → Type 0) (p : Play) (event : Event) (old new : Runner) (first before now : S)
-    (kept_first kept_before kept : Option (List ℕ)) → CameTo took old (reopened_state p) p first before kept_first kept_before
-    → DidEvent took event old new before now kept_before kept → CameTo took new (present_state (with_event p event)) (with_event p event) first now kept_first kept
-came_more took p event old new first before now kept_first kept_before kept came did =
+pub came_more : {S : Type 0} (took : S → List ℕ → S → Type 0) (event : Event) (old new : Runner) (before now : Around S)
+    → DidEvent took event old new before now → GoesOn took reopened_state (λ p. with_event p event) old before new now
+came_more took event old new before now did = λ from p first came.
     let is : new.session ≡ next (reopened_state p) event = did.turn.state ∙ ap (λ s. next s event) came.state in
     record {
       state = is;
       repeat = did.repeat ∙ came.repeat;
       answers = did.answers ∙ ap (λ lines. lines ++ accepted new.session.outcome) came.answers ∙ ap (λ (s : State). p.answers ++ accepted s.outcome) is;
-      shown = shown_more took p event old new first before now came.shown came.state did.turn;
-      kept = subst (λ (s : State). Appends kept_first kept (p.kept ++ new_entry s)) is
-          (Appends-trans kept_first kept_before kept p.kept (new_entry new.session) came.kept did.kept);
+      shown = shown_more took from p event old new first.screen before.screen now.screen came.shown came.state did.turn;
+      kept = subst (λ (s : State). Appends first.kept now.kept (p.kept ++ new_entry s)) is
+          (Appends-trans first.kept before.kept now.kept p.kept (new_entry new.session) came.kept did.kept);
+      held = did.held came.held;
+      told = λ turned. subst (λ (s : State). HoldWanted now.jobs (wanted s)) is (did.told came.held);
     }
 
 -- the next event finds a prompt that goes on as it is
-pub came_going : {S : Type 0} (took : S → List ℕ → S → Type 0) (p : Play) (runner : Runner) (first now : S) (kept_first kept : Option (List ℕ))
-    → CameTo took runner (present_state p) p first now kept_first kept → has_ended runner.session ≡ false
-    → CameTo took runner (reopened_state p) p first now kept_first kept
-came_going took p runner first now kept_first kept came on =
+pub came_going : {S : Type 0} (took : S → List ℕ → S → Type 0) (from : Beginning) (p : Play) (runner : Runner) (first now : Around S)
+    → CameTo took from runner (present_state p) p first now → has_ended runner.session ≡ false → CameTo took from runner (reopened_state p) p first now
+came_going took from p runner first now came on =
     let same : reopened_state p ≡ present_state p = reopened_going p.run (ap has_ended (sym came.state) ∙ on) in
-    subst (λ s. CameTo took runner s p first now kept_first kept) (sym same) came
+    subst (λ s. CameTo took from runner s p first now) (sym same) came
 
 -- the next prompt was opened, and all else is as before
 pub record GoesAgain (old new : Runner) : Type 0 where
@@ -166,12 +187,13 @@ pub record GoesAgain (old new : Runner) : Type 0 where
   pub shown : new.shown ≡ old.shown
   pub repeat : new.repeat ≡ old.repeat
   pub answers : new.answers ≡ old.answers
+  pub told : new.told ≡ old.told
 
 -- and behind an accepted text it finds the next prompt
-pub came_again : {S : Type 0} (took : S → List ℕ → S → Type 0) (p : Play) (old new : Runner) (first now : S) (kept_first kept : Option (List ℕ))
-    → CameTo took old (present_state p) p first now kept_first kept → is_accepted old.session.outcome ≡ true → GoesAgain old new
-    → CameTo took new (reopened_state p) p first now kept_first kept
-came_again took p old new first now kept_first kept came is goes =
+pub came_again : {S : Type 0} (took : S → List ℕ → S → Type 0) (from : Beginning) (p : Play) (old new : Runner) (first now : Around S)
+    → CameTo took from old (present_state p) p first now → is_accepted old.session.outcome ≡ true → GoesAgain old new
+    → CameTo took from new (reopened_state p) p first now
+came_again took from p old new first now came is goes =
     let accepts : is_accepted p.run.state.outcome ≡ true = ap (λ (s : State). is_accepted s.outcome) (sym came.state) ∙ is in
     record {
       state = goes.state ∙ ap again came.state ∙ sym (reopened_accepted p.run accepts);
@@ -180,9 +202,11 @@ came_again took p old new first now kept_first kept came is goes =
       shown = record {
         frames = came.shown.frames;
         taken = came.shown.taken;
-        show = subst (λ x. LeadOnEach p.first.state p.events came.shown.frames x p.run.state) (sym goes.shown) came.shown.show;
+        show = subst (λ x. LeadOnEach from p.events came.shown.frames x p.run.state) (sym goes.shown) came.shown.show;
       };
       kept = came.kept;
+      held = subst (λ told. AreHeld told now.jobs) (sym goes.told) came.held;
+      told = came.told;
     }
 
 -- ---- a run that stops
@@ -214,41 +238,80 @@ kept_more Screen first before now bytes more all rest = Appends-trans first befo
 kept_more Keeper first before now bytes more all rest = front_more first before now bytes more all rest
 kept_more NoMemory first before now bytes more all rest = front_more first before now bytes more all rest
 
-pub shown_to : {S : Type 0} (took : S → List ℕ → S → Type 0) (p : Play) (runner : Runner) (first now : S) (had : HasShown took p runner first now)
-    → ShowOnEach p.first.state p.events had.frames
-shown_to took p runner first now had = λ t terminal tall wide. let was = had.show t terminal tall wide in (was.0, was.1, was.2)
+pub shown_to : {S : Type 0} (took : S → List ℕ → S → Type 0) (from : Beginning) (p : Play) (runner : Runner) (first now : S)
+    (had : HasShown took from p runner first now) → ShowOnEach from p.events had.frames
+shown_to took from p runner first now had = λ t r here. let was = had.show t r here in (was.0, was.1, was.2)
 
 -- at a play, where nothing of a further event was kept
-pub stopped_there : {S : Type 0} (took missed : S → List ℕ → S → Type 0) (fault : RunFault) (p : Play) (runner : Runner) (s : State) (lines : List (List ℕ))
-    (first before now : S) (kept_first kept : Option (List ℕ)) → CameTo took runner s p first before kept_first kept → LeavesScreen missed fault before now
-    → lines ≡ runner.answers → StoppedAt took missed fault lines p first now kept_first kept
-stopped_there took missed fault p runner s lines first before now kept_first kept came leaves same = record {
-  before = before;
-  frames = record { frames = came.shown.frames; taken = came.shown.taken; show = shown_to took p runner first before came.shown };
+pub stopped_there : {S : Type 0} (took missed : S → List ℕ → S → Type 0) (from : Beginning) (fault : RunFault) (stands : Type 0) (p : Play)
+    (runner : Runner) (s : State) (lines : List (List ℕ)) (first before now : Around S) → CameTo took from runner s p first before
+    → LeavesScreen missed fault before.screen now.screen → now.kept ≡ before.kept → now.jobs ≡ before.jobs → lines ≡ runner.answers
+    → StoppedAt took missed from fault stands lines p first now
+stopped_there took missed from fault stands p runner s lines first before now came leaves kept jobs same = record {
+  before = before.screen;
+  frames = record {
+    frames = came.shown.frames;
+    taken = came.shown.taken;
+    show = shown_to took from p runner first.screen before.screen came.shown;
+  };
   screen = leaves;
   lines = lines_whole fault lines p.answers (same ∙ came.answers);
-  kept = kept_whole fault kept_first kept p.kept came.kept;
+  kept = kept_whole fault first.kept now.kept p.kept (subst (λ x. Appends first.kept x p.kept) (sym kept) came.kept);
+  told = λ still turned. subst (λ x. HoldWanted x (wanted p.run.state)) (sym jobs) (came.told turned);
 }
 
+-- what a turn did, and what followed it up to a fault
+pub record StopsBehind {S : Type 0} (took missed : S → List ℕ → S → Type 0) (event : Event) (fault : RunFault) (stands : Type 0) (old new : Runner)
+    (left : List (List ℕ)) (before now : Around S) : Type 0 where
+  pub turn : DidTurn took event old new before.screen now.screen
+  pub screen : LeavesScreen missed fault now.screen now.screen
+  pub lines : LeavesLines fault left (old.answers ++ accepted new.session.outcome)
+  pub kept : LeavesKept fault before.kept now.kept (new_entry new.session)
+  pub told : stands → AreHeld old.told before.jobs → HoldWanted now.jobs (wanted new.session)
+
 -- behind the turn of an event
-pub stopped_behind : {S : Type 0} (took missed : S → List ℕ → S → Type 0) (fault : RunFault) (p : Play) (event : Event) (old new : Runner) (lines : List (List ℕ))
-    (first before now : S) (kept_first kept_before kept : Option (List ℕ)) → CameTo took old (reopened_state p) p first before kept_first kept_before
-    → DidTurn took event old new before now → LeavesScreen missed fault now now
-    → LeavesLines fault lines (old.answers ++ accepted new.session.outcome) → LeavesKept fault kept_before kept (new_entry new.session)
-    → StoppedAt took missed fault lines (with_event p event) first now kept_first kept
-stopped_behind took missed fault p event old new lines first before now kept_first kept_before kept came did leaves left rest =
-    let is : new.session ≡ next (reopened_state p) event = did.state ∙ ap (λ s. next s event) came.state in
-    let had : HasShown took (with_event p event) new first now = shown_more took p event old new first before now came.shown came.state did in
+stopped_behind : {S : Type 0} (took missed : S → List ℕ → S → Type 0) (from : Beginning) (fault : RunFault) (stands : Type 0) (p : Play)
+    (event : Event) (old new : Runner) (lines : List (List ℕ)) (first before now : Around S) → CameTo took from old (reopened_state p) p first before
+    → StopsBehind took missed event fault stands old new lines before now → StoppedAt took missed from fault stands lines (with_event p event) first now
+stopped_behind took missed from fault stands p event old new lines first before now came did =
+    let is : new.session ≡ next (reopened_state p) event = did.turn.state ∙ ap (λ s. next s event) came.state in
+    let had : HasShown took from (with_event p event) new first.screen now.screen =
+    shown_more took from p event old new first.screen before.screen now.screen came.shown came.state did.turn in
     let all : old.answers ++ accepted new.session.outcome ≡ (with_event p event).answers =
     ap (λ xs. xs ++ accepted new.session.outcome) came.answers ∙ ap (λ (s : State). p.answers ++ accepted s.outcome) is in
     record {
-      before = now;
-      frames = record { frames = had.frames; taken = had.taken; show = shown_to took (with_event p event) new first now had };
-      screen = leaves;
-      lines = subst (λ xs. LeavesLines fault lines xs) all left;
-      kept = subst (λ (s : State). LeavesKept fault kept_first kept (p.kept ++ new_entry s)) is
-          (kept_more fault kept_first kept_before kept p.kept (new_entry new.session) came.kept rest);
+      before = now.screen;
+      frames = record {
+        frames = had.frames;
+        taken = had.taken;
+        show = shown_to took from (with_event p event) new first.screen now.screen had;
+      };
+      screen = did.screen;
+      lines = subst (λ xs. LeavesLines fault lines xs) all did.lines;
+      kept = subst (λ (s : State). LeavesKept fault first.kept now.kept (p.kept ++ new_entry s)) is
+          (kept_more fault first.kept before.kept now.kept p.kept (new_entry new.session) came.kept did.kept);
+      told = λ still turned. subst (λ (s : State). HoldWanted now.jobs (wanted s)) is (did.told still came.held);
     }
+
+-- a turn was not made
+pub event_stops_before : {S : Type 0} (took missed : S → List ℕ → S → Type 0) (fault : RunFault) (stands : Type 0) (event : Event) (old new : Runner)
+    (before now : Around S) → LeavesScreen missed fault before.screen now.screen → now.kept ≡ before.kept → now.jobs ≡ before.jobs
+    → new.answers ≡ old.answers → Stops took missed reopened_state (λ p. with_event p event) old before fault stands new now
+event_stops_before took missed fault stands event old new before now leaves kept jobs same = λ from p first came. (
+  p,
+  record { from = leads_nowhere p; to = leads_once p event },
+  stopped_there took missed from fault stands p old (reopened_state p) new.answers first before now came leaves kept jobs same,
+)
+
+-- it was made, but not all that follows it
+pub event_stops_behind : {S : Type 0} (took missed : S → List ℕ → S → Type 0) (fault : RunFault) (stands : Type 0) (event : Event) (old new : Runner)
+    (before now : Around S) → StopsBehind took missed event fault stands old new new.answers before now
+    → Stops took missed reopened_state (λ p. with_event p event) old before fault stands new now
+event_stops_behind took missed fault stands event old new before now did = λ from p first came. (
+  with_event p event,
+  record { from = leads_once p event; to = leads_nowhere (with_event p event) },
+  stopped_behind took missed from fault stands p event old new new.answers first before now came did,
+)
 
 -- ---- what a fault leaves
 
@@ -272,27 +335,6 @@ pub front_put : (old new : Option (List ℕ)) (put bytes part : List ℕ) → pu
 front_put old new put bytes part is starts appends =
     (part, (drop (length part) put, sym is ∙ sym (take-append-drop (length part) put) ∙ ap (λ xs. xs ++ drop (length part) put) starts), appends)
 
--- a turn was not made
-pub event_stops_before : {S : Type 0} (took missed : S → List ℕ → S → Type 0) (fault : RunFault) (event : Event) (old new : Runner) (screen_old now : S)
-    (kept : Option (List ℕ)) → LeavesScreen missed fault screen_old now → new.answers ≡ old.answers
-    → Stops took missed reopened_state (λ p. with_event p event) old screen_old kept fault new now kept
-event_stops_before took missed fault event old new screen_old now kept leaves same = λ p first kept_first came. (
-  p,
-  record { from = leads_nowhere p; to = leads_once p event },
-  stopped_there took missed fault p old (reopened_state p) new.answers first screen_old now kept_first kept came leaves same,
-)
-
--- it was made, but not all that follows it
-pub event_stops_behind : {S : Type 0} (took missed : S → List ℕ → S → Type 0) (fault : RunFault) (event : Event) (old new : Runner) (screen_old now : S)
-    (kept_old kept : Option (List ℕ)) → DidTurn took event old new screen_old now → LeavesScreen missed fault now now
-    → LeavesLines fault new.answers (old.answers ++ accepted new.session.outcome) → LeavesKept fault kept_old kept (new_entry new.session)
-    → Stops took missed reopened_state (λ p. with_event p event) old screen_old kept_old fault new now kept
-event_stops_behind took missed fault event old new screen_old now kept_old kept did leaves left rest = λ p first kept_first came. (
-  with_event p event,
-  record { from = leads_once p event; to = leads_nowhere (with_event p event) },
-  stopped_behind took missed fault p event old new new.answers first screen_old now kept_first kept_old kept came did leaves left rest,
-)
-
 -- nothing of it is a part
 pub no_entry_left : (kept : Option (List ℕ)) (bytes : List ℕ) → AppendsFront kept kept bytes
 no_entry_left kept bytes = ([], (bytes, refl), Appends-nil kept)
@@ -303,15 +345,15 @@ no_line_left lines old accepted same = (accepted, ap (λ xs. xs ++ accepted) (sy
 -- ---- the prompts that follow
 
 -- wherever a runner came to a play, it now came from it to one from which there are so many prompts left to follow
-abbrev pub HasFollowed : {S : Type 0} → (S → List ℕ → S → Type 0) → Runner → S → Option (List ℕ) → ℕ → Runner → S → Option (List ℕ) → Type 0
-HasFollowed {S} took old screen_old kept_old left new screen_new kept_new =
-    (p : Play) (first : S) (kept_first : Option (List ℕ)) → CameTo took old (present_state p) p first screen_old kept_first kept_old
-    → (q : Play) × CameTo took new (present_state q) q first screen_new kept_first kept_new × LeadsTo p q × (followed left q ≡ followed (lines_left p) p)
+abbrev pub HasFollowed : {S : Type 0} → (S → List ℕ → S → Type 0) → Runner → Around S → ℕ → Runner → Around S → Type 0
+HasFollowed {S} took old before left new now =
+    (from : Beginning) (p : Play) (first : Around S) → CameTo took from old (present_state p) p first before
+    → (q : Play) × CameTo took from new (present_state q) q first now × LeadsTo p q × (followed left q ≡ followed (lines_left p) p)
 
 -- before the first of them
-pub followed_first : {S : Type 0} (took : S → List ℕ → S → Type 0) (runner : Runner) (screen : S) (kept : Option (List ℕ)) (left : ℕ)
-    → left ≡ runner.repeat - length runner.answers → HasFollowed took runner screen kept left runner screen kept
-followed_first took runner screen kept left is = λ p first kept_first came. (
+pub followed_first : {S : Type 0} (took : S → List ℕ → S → Type 0) (runner : Runner) (now : Around S) (left : ℕ)
+    → left ≡ runner.repeat - length runner.answers → HasFollowed took runner now left runner now
+followed_first took runner now left is = λ from p first came. (
   p,
   came,
   leads_nowhere p,
@@ -319,97 +361,108 @@ followed_first took runner screen kept left is = λ p first kept_first came. (
 )
 
 -- behind one of them
-pub followed_on : {S : Type 0} (took : S → List ℕ → S → Type 0) (old here again new : Runner) (screen_old between now : S) (kept_old kept_between kept : Option (List ℕ))
-    (left more : ℕ) → HasFollowed took old screen_old kept_old left here between kept_between → left ≡ more + 1 → is_accepted here.session.outcome ≡ true
-    → GoesAgain here again → GoesOn took reopened_state (λ p. with_event p Start) again between kept_between new now kept
-    → HasFollowed took old screen_old kept_old more new now kept
-followed_on took old here again new screen_old between now kept_old kept_between kept left more so_far is accepts goes on = λ p first kept_first came.
-    let run = so_far p first kept_first came in
+pub followed_on : {S : Type 0} (took : S → List ℕ → S → Type 0) (old here again new : Runner) (before between now : Around S) (left more : ℕ)
+    → HasFollowed took old before left here between → left ≡ more + 1 → is_accepted here.session.outcome ≡ true → GoesAgain here again
+    → GoesOn took reopened_state (λ p. with_event p Start) again between new now → HasFollowed took old before more new now
+followed_on took old here again new before between now left more so_far is accepts goes on = λ from p first came.
+    let run = so_far from p first came in
     let q : Play = run.0 in (
       with_event q Start,
-      on q first kept_first (came_again took q here again first between kept_first kept_between run.1 accepts goes),
+      on from q first (came_again took from q here again first between run.1 accepts goes),
       leads_on p q (with_event q Start) run.2 (leads_once q Start),
       sym (followed_more q left more is (ap (λ (s : State). is_accepted s.outcome) (sym run.1.state) ∙ accepts)) ∙ run.3,
     )
 
 -- behind the last of them
-pub followed_all : {S : Type 0} (took : S → List ℕ → S → Type 0) (old new : Runner) (screen_old now : S) (kept_old kept : Option (List ℕ)) (left : ℕ)
-    → HasFollowed took old screen_old kept_old left new now kept → (0 < left → is_accepted new.session.outcome ≡ false)
-    → GoesOn took present_state (λ p. followed (lines_left p) p) old screen_old kept_old new now kept
-followed_all took old new screen_old now kept_old kept left so_far none = λ p first kept_first came.
-    let run = so_far p first kept_first came in
+pub followed_all : {S : Type 0} (took : S → List ℕ → S → Type 0) (old new : Runner) (before now : Around S) (left : ℕ)
+    → HasFollowed took old before left new now → (0 < left → is_accepted new.session.outcome ≡ false)
+    → GoesOn took present_state (λ p. followed (lines_left p) p) old before new now
+followed_all took old new before now left so_far none = λ from p first came.
+    let run = so_far from p first came in
     let here : run.0 ≡ followed (lines_left p) p =
     sym (followed_none run.0 left (λ some. ap (λ (s : State). is_accepted s.outcome) (sym run.1.state) ∙ none some)) ∙ run.3 in
-    subst (λ q. CameTo took new (present_state q) q first now kept_first kept) here run.1
+    subst (λ q. CameTo took from new (present_state q) q first now) here run.1
 
 -- one of them could not be opened
-pub followed_stop : {S : Type 0} (took missed : S → List ℕ → S → Type 0) (fault : RunFault) (old here new : Runner) (screen_old now : S)
-    (kept_old kept : Option (List ℕ)) (left : ℕ) → HasFollowed took old screen_old kept_old left here now kept → LeavesScreen missed fault now now
-    → new.answers ≡ here.answers → Stops took missed present_state (λ p. followed (lines_left p) p) old screen_old kept_old fault new now kept
-followed_stop took missed fault old here new screen_old now kept_old kept left so_far leaves same = λ p first kept_first came.
-    let run = so_far p first kept_first came in (
+pub followed_stop : {S : Type 0} (took missed : S → List ℕ → S → Type 0) (fault : RunFault) (stands : Type 0) (old here new : Runner) (before now : Around S)
+    (left : ℕ) → HasFollowed took old before left here now → LeavesScreen missed fault now.screen now.screen → new.answers ≡ here.answers
+    → Stops took missed present_state (λ p. followed (lines_left p) p) old before fault stands new now
+followed_stop took missed fault stands old here new before now left so_far leaves same = λ from p first came.
+    let run = so_far from p first came in (
       run.0,
       record { from = run.2; to = leads_same run.0 (followed left run.0) (followed (lines_left p) p) (leads_followed left run.0) run.3 },
-      stopped_there took missed fault run.0 here (present_state run.0) new.answers first now now kept_first kept run.1 leaves same,
+      stopped_there took missed from fault stands run.0 here (present_state run.0) new.answers first now now run.1 leaves refl refl same,
     )
 
+-- a count that stands over the whole stands over its last part
+pub stopped_in : {S : Type 0} (took missed : S → List ℕ → S → Type 0) (from : Beginning) (fault : RunFault) (part whole : Type 0)
+    (lines : List (List ℕ)) (q : Play) (first now : Around S) → (whole → part) → StoppedAt took missed from fault part lines q first now
+    → StoppedAt took missed from fault whole lines q first now
+stopped_in took missed from fault part whole lines q first now within stop =
+    record {
+      before = stop.before;
+      frames = stop.frames;
+      screen = stop.screen;
+      lines = stop.lines;
+      kept = stop.kept;
+      told = λ still turned. stop.told (within still) turned;
+    }
+
 -- or its first event could not be done
-pub followed_fault : {S : Type 0} (took missed : S → List ℕ → S → Type 0) (fault : RunFault) (old here again new : Runner) (screen_old between now : S)
-    (kept_old kept_between kept : Option (List ℕ)) (left more : ℕ) → HasFollowed took old screen_old kept_old left here between kept_between → left ≡ more + 1
-    → is_accepted here.session.outcome ≡ true → GoesAgain here again
-    → Stops took missed reopened_state (λ p. with_event p Start) again between kept_between fault new now kept
-    → Stops took missed present_state (λ p. followed (lines_left p) p) old screen_old kept_old fault new now kept
-followed_fault took missed fault old here again new screen_old between now kept_old kept_between kept left more so_far is accepts goes stops = λ p first kept_first came.
-    let run = so_far p first kept_first came in
+pub followed_fault : {S : Type 0} (took missed : S → List ℕ → S → Type 0) (fault : RunFault) (part whole : Type 0) (old here again new : Runner)
+    (before between now : Around S) (left more : ℕ) → HasFollowed took old before left here between → left ≡ more + 1
+    → is_accepted here.session.outcome ≡ true → GoesAgain here again → (whole → part)
+    → Stops took missed reopened_state (λ p. with_event p Start) again between fault part new now
+    → Stops took missed present_state (λ p. followed (lines_left p) p) old before fault whole new now
+followed_fault took missed fault part whole old here again new before between now left more so_far is accepts goes within stops = λ from p first came.
+    let run = so_far from p first came in
     let q : Play = run.0 in
-    let stop = stops q first kept_first (came_again took q here again first between kept_first kept_between run.1 accepts goes) in
-    let whole : followed more (with_event q Start) ≡ followed (lines_left p) p =
+    let stop = stops from q first (came_again took from q here again first between run.1 accepts goes) in
+    let all : followed more (with_event q Start) ≡ followed (lines_left p) p =
     sym (followed_more q left more is (ap (λ (s : State). is_accepted s.outcome) (sym run.1.state) ∙ accepts)) ∙ run.3 in (
       stop.0,
       record {
         from = leads_on p q stop.0 run.2 stop.1.from;
         to = leads_on stop.0 (with_event q Start) (followed (lines_left p) p) stop.1.to
-            (leads_same (with_event q Start) (followed more (with_event q Start)) (followed (lines_left p) p) (leads_followed more (with_event q Start)) whole);
+            (leads_same (with_event q Start) (followed more (with_event q Start)) (followed (lines_left p) p) (leads_followed more (with_event q Start)) all);
       },
-      stop.2,
+      stopped_in took missed from fault part whole new.answers stop.0 first now within stop.2,
     )
 
 -- ---- an event of an inbox
 
-pub done_goes : {S : Type 0} (took : S → List ℕ → S → Type 0) (event : Event) (old mid new : Runner) (screen_old between now : S)
-    (kept_old kept_between kept : Option (List ℕ)) → has_ended old.session ≡ false
-    → GoesOn took reopened_state (λ p. with_event p event) old screen_old kept_old mid between kept_between
-    → GoesOn took present_state (λ p. followed (lines_left p) p) mid between kept_between new now kept
-    → GoesOn took present_state (λ p. done p event) old screen_old kept_old new now kept
-done_goes took event old mid new screen_old between now kept_old kept_between kept on one rest = λ p first kept_first came.
+pub done_goes : {S : Type 0} (took : S → List ℕ → S → Type 0) (event : Event) (old mid new : Runner) (before between now : Around S)
+    → has_ended old.session ≡ false → GoesOn took reopened_state (λ p. with_event p event) old before mid between
+    → GoesOn took present_state (λ p. followed (lines_left p) p) mid between new now → GoesOn took present_state (λ p. done p event) old before new now
+done_goes took event old mid new before between now on one rest = λ from p first came.
     let here : has_ended p.run.state ≡ false = ap has_ended (sym came.state) ∙ on in
-    let mid_came = one p first kept_first (came_going took p old first screen_old kept_first kept_old came on) in
-    subst (λ q. CameTo took new (present_state q) q first now kept_first kept) (done_on p event here) (rest (with_event p event) first kept_first mid_came)
+    let mid_came = one from p first (came_going took from p old first before came on) in
+    subst (λ q. CameTo took from new (present_state q) q first now) (done_on p event here) (rest from (with_event p event) first mid_came)
 
-pub done_stops_first : {S : Type 0} (took missed : S → List ℕ → S → Type 0) (fault : RunFault) (event : Event) (old new : Runner) (screen_old now : S)
-    (kept_old kept : Option (List ℕ)) → has_ended old.session ≡ false
-    → Stops took missed reopened_state (λ p. with_event p event) old screen_old kept_old fault new now kept
-    → Stops took missed present_state (λ p. done p event) old screen_old kept_old fault new now kept
-done_stops_first took missed fault event old new screen_old now kept_old kept on stops = λ p first kept_first came.
+pub done_stops_first : {S : Type 0} (took missed : S → List ℕ → S → Type 0) (fault : RunFault) (stands : Type 0) (event : Event) (old new : Runner)
+    (before now : Around S) → has_ended old.session ≡ false
+    → Stops took missed reopened_state (λ p. with_event p event) old before fault stands new now
+    → Stops took missed present_state (λ p. done p event) old before fault stands new now
+done_stops_first took missed fault stands event old new before now on stops = λ from p first came.
     let here : has_ended p.run.state ≡ false = ap has_ended (sym came.state) ∙ on in
-    let stop = stops p first kept_first (came_going took p old first screen_old kept_first kept_old came on) in (
+    let stop = stops from p first (came_going took from p old first before came on) in (
       stop.0,
       record { from = stop.1.from; to = leads_on stop.0 (with_event p event) (done p event) stop.1.to (leads_done p event here) },
       stop.2,
     )
 
-pub done_stops_behind : {S : Type 0} (took missed : S → List ℕ → S → Type 0) (fault : RunFault) (event : Event) (old mid new : Runner)
-    (screen_old between now : S) (kept_old kept_between kept : Option (List ℕ)) → has_ended old.session ≡ false
-    → GoesOn took reopened_state (λ p. with_event p event) old screen_old kept_old mid between kept_between
-    → Stops took missed present_state (λ p. followed (lines_left p) p) mid between kept_between fault new now kept
-    → Stops took missed present_state (λ p. done p event) old screen_old kept_old fault new now kept
-done_stops_behind took missed fault event old mid new screen_old between now kept_old kept_between kept on one stops = λ p first kept_first came.
+pub done_stops_behind : {S : Type 0} (took missed : S → List ℕ → S → Type 0) (fault : RunFault) (part whole : Type 0) (event : Event)
+    (old mid new : Runner) (before between now : Around S) → has_ended old.session ≡ false → (whole → part)
+    → GoesOn took reopened_state (λ p. with_event p event) old before mid between
+    → Stops took missed present_state (λ p. followed (lines_left p) p) mid between fault part new now
+    → Stops took missed present_state (λ p. done p event) old before fault whole new now
+done_stops_behind took missed fault part whole event old mid new before between now on within one stops = λ from p first came.
     let here : has_ended p.run.state ≡ false = ap has_ended (sym came.state) ∙ on in
-    let stop = stops (with_event p event) first kept_first (one p first kept_first (came_going took p old first screen_old kept_first kept_old came on)) in (
+    let stop = stops from (with_event p event) first (one from p first (came_going took from p old first before came on)) in (
       stop.0,
       record {
         from = leads_on p (with_event p event) stop.0 (leads_once p event) stop.1.from;
         to = leads_same stop.0 _ (done p event) stop.1.to (done_on p event here);
       },
-      stop.2,
+      stopped_in took missed from fault part whole new.answers stop.0 first now within stop.2,
     )

@@ -4,6 +4,7 @@ pub mod CourseLemmas
 pub mod EntryLemmas
 pub mod InboxLemmas
 pub mod PlayLemmas
+pub mod PlayerLemmas
 pub mod RunLemmas
 pub mod ScriptLemmas
 pub mod ShowLemmas

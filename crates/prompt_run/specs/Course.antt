@@ -1,16 +1,20 @@
--- What a run of prompts has done to its outside: the frames that the screen took, the accepted lines, and the entries that were kept.
-use Rattle.std.specs.Prelude.{◌≡◌, ℕ, List, [], ◌∷◌, ◌++◌, Option}
+-- What a run of prompts has done to its outside: the frames that the screen took, the accepted lines, the entries that were kept, and
+-- the requests that jobs were told of.
+use Rattle.std.specs.Prelude.{◌≡◌, ◌<◌, ℕ, List, [], ◌∷◌, ◌++◌, length, Option}
 use Rattle.std.specs.Io.KnownBytes.{Appends}
 use Rattle.causes.specs.Chain.{Chain}
+use Rattle.events.specs.Jobs.{Wanted}
 use Rattle.events.specs.declared.events.Event.{Event}
 use Rattle.prompt_settings.specs.Settings.{repeat_of}
 use Rattle.session_core.specs.State.{State}
+use Rattle.session_core.specs.Wishes.{wanted}
 use Rattle.prompt_run.specs.Play.{Play, with_event}
 use Rattle.prompt_run.specs.Run.{reopened}
-use Rattle.prompt_run.specs.Showing.{LeadOnEach, ShowOnEach}
+use Rattle.prompt_run.specs.Showing.{Beginning, LeadOnEach, ShowOnEach}
 use Rattle.prompt_run.specs.declared.runners.RunFault.{RunFault}
 use Rattle.prompt_run.specs.declared.runners.RunFault.TheVariants.{Inbox, Screen, Keeper, NoMemory}
 use Rattle.prompt_run.specs.declared.runners.Runner.{Runner}
+use Rattle.prompt_run.specs.Wishes.{AreHeld, HoldWanted}
 
 -- a part of a list, from its front on
 abbrev pub IsFront : {A : Type 0} → List A → List A → Type 0
@@ -34,20 +38,37 @@ pub record IsBetween (p q end : Play) : Type 0 where
 
 -- ---- a run that goes on
 
--- the screen took one frame for each event of the play, which show its run, also where they are what the next frame begins with
-pub record HasShown {S : Type 0} (took : S → List ℕ → S → Type 0) (p : Play) (runner : Runner) (first now : S) : Type 0 where
+-- what is around a run at a moment: the screen, the bytes on the keeper, and the requests that jobs hold
+pub record Around (S : Type 0) : Type 0 where
+  pub screen : S
+  pub kept : Option (List ℕ)
+  pub jobs : Option Wanted
+
+abbrev pub around : {S : Type 0} → S → Option (List ℕ) → Option Wanted → Around S
+around screen kept jobs = record { screen = screen; kept = kept; jobs = jobs }
+
+-- at least one turn was made
+abbrev pub HasTurned : Play → Type 0
+HasTurned p = 0 < length p.events
+
+-- the screen took one frame for each event of the play, and wherever the events begin they show the run, also where it is what
+-- the next frame begins with
+pub record HasShown {S : Type 0} (took : S → List ℕ → S → Type 0) (from : Beginning) (p : Play) (runner : Runner) (first now : S) : Type 0 where
   pub frames : List (List ℕ)
   pub taken : Chain took first frames now
-  pub show : LeadOnEach p.first.state p.events frames runner.shown p.run.state
+  pub show : LeadOnEach from p.events frames runner.shown p.run.state
 
--- the runner came to this play, or from there to this state: the screen took the play's frames, and the keeper its entries
-pub record CameTo {S : Type 0} (took : S → List ℕ → S → Type 0) (runner : Runner) (s : State) (p : Play) (first now : S)
-    (kept_first kept_now : Option (List ℕ)) : Type 0 where
+-- the runner came to this play, or from there to this state: the screen took the play's frames, and the keeper its entries; jobs hold all
+-- that they were told, and of each kind the request that is wanted behind the last turn
+pub record CameTo {S : Type 0} (took : S → List ℕ → S → Type 0) (from : Beginning) (runner : Runner) (s : State) (p : Play)
+    (first now : Around S) : Type 0 where
   pub state : runner.session ≡ s
   pub repeat : runner.repeat ≡ repeat_of p.first.state.settings
   pub answers : runner.answers ≡ p.answers
-  pub shown : HasShown took p runner first now
-  pub kept : Appends kept_first kept_now p.kept
+  pub shown : HasShown took from p runner first.screen now.screen
+  pub kept : Appends first.kept now.kept p.kept
+  pub held : AreHeld runner.told now.jobs
+  pub told : HasTurned p → HoldWanted now.jobs (wanted p.run.state)
 
 -- the state in which the next event of a run finds it
 abbrev pub reopened_state : Play → State
@@ -57,11 +78,10 @@ abbrev pub present_state : Play → State
 present_state p = p.run.state
 
 -- wherever a run came to a play, and to the state `found` there, it now came from it to the play `next` of that one
-abbrev pub GoesOn : {S : Type 0} → (S → List ℕ → S → Type 0) → (Play → State) → (Play → Play) → Runner → S → Option (List ℕ) → Runner → S
-    → Option (List ℕ) → Type 0
-GoesOn {S} took found next old screen_old kept_old new screen_new kept_new =
-    (p : Play) (first : S) (kept_first : Option (List ℕ)) → CameTo took old (found p) p first screen_old kept_first kept_old
-    → CameTo took new (present_state (next p)) (next p) first screen_new kept_first kept_new
+abbrev pub GoesOn : {S : Type 0} → (S → List ℕ → S → Type 0) → (Play → State) → (Play → Play) → Runner → Around S → Runner → Around S → Type 0
+GoesOn {S} took found next old before new now =
+    (from : Beginning) (p : Play) (first : Around S) → CameTo took from old (found p) p first before
+    → CameTo took from new (present_state (next p)) (next p) first now
 
 -- ---- a run that stopped for a fault
 
@@ -90,24 +110,26 @@ LeavesKept Screen old new bytes = Appends old new bytes
 LeavesKept Keeper old new bytes = AppendsFront old new bytes
 LeavesKept NoMemory old new bytes = AppendsFront old new bytes
 
--- the screen took one frame for each event of a run that begins in this state, and they show the run
-pub record TookFrames {S : Type 0} (took : S → List ℕ → S → Type 0) (s : State) (events : List Event) (first now : S) : Type 0 where
+-- the screen took one frame for each of the events, and wherever these begin they show the run
+pub record TookFrames {S : Type 0} (took : S → List ℕ → S → Type 0) (from : Beginning) (events : List Event) (first now : S) : Type 0 where
   pub frames : List (List ℕ)
   pub taken : Chain took first frames now
-  pub show : ShowOnEach s events frames
+  pub show : ShowOnEach from events frames
 
--- a run stopped for a fault behind the events of this play
-pub record StoppedAt {S : Type 0} (took missed : S → List ℕ → S → Type 0) (fault : RunFault) (answers : List (List ℕ)) (p : Play) (first now : S)
-    (kept_first kept_now : Option (List ℕ)) : Type 0 where
+-- a run stopped for a fault behind the events of this play. What jobs were told last is what is wanted behind its last turn, where
+-- their own count of faults stands
+pub record StoppedAt {S : Type 0} (took missed : S → List ℕ → S → Type 0) (from : Beginning) (fault : RunFault) (stands : Type 0)
+    (answers : List (List ℕ)) (p : Play) (first now : Around S) : Type 0 where
   pub before : S
-  pub frames : TookFrames took p.first.state p.events first before
-  pub screen : LeavesScreen missed fault before now
+  pub frames : TookFrames took from p.events first.screen before
+  pub screen : LeavesScreen missed fault before now.screen
   pub lines : LeavesLines fault answers p.answers
-  pub kept : LeavesKept fault kept_first kept_now p.kept
+  pub kept : LeavesKept fault first.kept now.kept p.kept
+  pub told : stands → HasTurned p → HoldWanted now.jobs (wanted p.run.state)
 
 -- wherever a run came to a play, and to the state `found` there, it stopped for a fault on the way to the play `next` of that one
-abbrev pub Stops : {S : Type 0} → (S → List ℕ → S → Type 0) → (S → List ℕ → S → Type 0) → (Play → State) → (Play → Play) → Runner → S
-    → Option (List ℕ) → RunFault → Runner → S → Option (List ℕ) → Type 0
-Stops {S} took missed found next old screen_old kept_old fault new screen_new kept_new =
-    (p : Play) (first : S) (kept_first : Option (List ℕ)) → CameTo took old (found p) p first screen_old kept_first kept_old
-    → (q : Play) × IsBetween p q (next p) × StoppedAt took missed fault new.answers q first screen_new kept_first kept_new
+abbrev pub Stops : {S : Type 0} → (S → List ℕ → S → Type 0) → (S → List ℕ → S → Type 0) → (Play → State) → (Play → Play) → Runner → Around S
+    → RunFault → Type 0 → Runner → Around S → Type 0
+Stops {S} took missed found next old before fault stands new now =
+    (from : Beginning) (p : Play) (first : Around S) → CameTo took from old (found p) p first before
+    → (q : Play) × IsBetween p q (next p) × StoppedAt took missed from fault stands new.answers q first now

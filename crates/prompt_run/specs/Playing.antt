@@ -1,19 +1,15 @@
 -- How a player stands for a play.
-use Rattle.std.specs.Prelude.{◌≡◌, ℕ, Bool, true, false, List, Option, Some, None, is_some}
+use Rattle.std.specs.Prelude.{◌≡◌, ℕ, Bool, true, false, List, Option, Some, None}
 use Rattle.std.specs.List.{concat}
 use Rattle.prompt_settings.specs.Settings.{repeat_of}
-use Rattle.diff_render.specs.Frames.{Agree, Begins}
-use Rattle.diff_render.specs.declared.shown.OnScreen.TheVariants.{Nothing}
 use Rattle.script_lines.specs.declared.script_line.ScriptLine.{ScriptLine}
-use Rattle.session_core.specs.State.{has_ended}
-use Rattle.term_model.specs.Obeying.{line_of}
 use Rattle.term_model.specs.Term.{Term}
 use Rattle.prompt_run.specs.FramesShown.{FramesShow}
 use Rattle.prompt_run.specs.Given.{Given}
 use Rattle.prompt_run.specs.Play.{Play, Played, played, went}
+use Rattle.prompt_run.specs.Runs.{MayGoOn}
 use Rattle.prompt_run.specs.Script.{ended_by, final_by, given_by}
-use Rattle.prompt_run.specs.Run.{Run}
-use Rattle.prompt_run.specs.Turn.{MayTurn}
+use Rattle.prompt_run.specs.Showing.{ShowsRun}
 use Rattle.prompt_run.specs.declared.players.Player.{Player}
 
 -- the frames that were kept, joined, are those of the play's events: the terminal that obeyed them is this one
@@ -22,22 +18,15 @@ KeepsFrames None p t = Unit {0}
 KeepsFrames (Some bytes) p t =
     (frames : List (List ℕ)) × FramesShow p.first.screen p.first p.events frames t p.run × (bytes ≡ concat frames)
 
--- the player is at this run of a play: its terminal agrees with the screen, and the next frame begins on the base line where the
--- prompt goes on; where it has ended nothing is shown, and the next frame would begin on the cursor's line
-pub record HoldsAt (player : Player) (r : Run) (p : Play) : Type 0 where
-  pub state : player.session ≡ r.state
-  pub agrees : Agree player.screen.terminal r.screen
-  pub begins : has_ended r.state ≡ false → Begins r.state.size player.shown player.screen.terminal r.base
-  pub ended : is_some r.state.outcome ≡ true → (player.shown ≡ Nothing) × Begins r.state.size Nothing player.screen.terminal (line_of r.screen)
-  pub drawn : MayTurn r.state player.shown
-  pub repeat : player.repeat ≡ repeat_of p.first.state.settings
-  pub answers : player.answers ≡ p.answers
+-- the player has what the play has, and its terminal, with what is on its screen, stands for the play's run
+pub record Holds (player : Player) (p : Play) : Type 0 where
+  pub state : player.runner.session ≡ p.run.state
+  pub shows : ShowsRun player.runner.shown player.screen.terminal p.run
+  pub may : MayGoOn player.runner
+  pub repeat : player.runner.repeat ≡ repeat_of p.first.state.settings
+  pub answers : player.runner.answers ≡ p.answers
   pub reports : player.reports.items ≡ p.reports
   pub frames : KeepsFrames player.screen.frames p player.screen.terminal
-
--- the player has what the play has
-abbrev pub Holds : Player → Play → Type 0
-Holds player p = HoldsAt player p.run p
 
 -- a line was played: the player goes on from the play behind it, or it is where the script is refused
 abbrev pub PlaysLine : Bool → Play → Option ScriptLine → Player → Type 0

@@ -1,11 +1,9 @@
 -- What jobs were told of the requests that are wanted, and whether they hold that still.
-use Rattle.std.specs.Prelude.{◌≡◌, ℕ, Bool, true, false, Option, None, Some, option_map}
+use Rattle.std.specs.Prelude.{◌≡◌, ◌≤◌, ◌<◌, ◌-◌, ◌^◌, ℕ, Bool, true, false, Option, None, Some, option_map}
 use Rattle.events.specs.Jobs.{Wanted, wanted_of}
 use Rattle.requests.specs.Requests.{RequestFields}
 use Rattle.requests.specs.declared.requests.Kind.{Kind}
 use Rattle.requests.specs.declared.requests.Kind.TheVariants.{Complete, Suggest, Check}
-use Rattle.session_core.specs.Wishes.{wanted}
-use Rattle.prompt_run.specs.declared.runners.Runner.{Runner}
 use Rattle.prompt_run.specs.declared.wishes.ToldWishes.{ToldWishes}
 
 -- the number of a request, if there is one
@@ -34,11 +32,6 @@ pub record HoldWanted (jobs : Option Wanted) (wishes : Wanted) : Type 0 where
   pub suggest : IsHeld (Some (wanted_number Suggest wishes)) jobs Suggest
   pub check : IsHeld (Some (wanted_number Check wishes)) jobs Check
 
--- jobs were told what the runner's session wants
-pub record WereTold (runner : Runner) (jobs : Option Wanted) : Type 0 where
-  pub held : AreHeld runner.told jobs
-  pub hold : HoldWanted jobs (wanted runner.session)
-
 abbrev pub is_same_kind : Kind → Kind → Bool
 is_same_kind Complete Complete = true
 is_same_kind Complete Suggest = false
@@ -53,3 +46,13 @@ is_same_kind Check Check = true
 -- what jobs held of the kinds but this one they hold still
 abbrev pub KeepsOthers : Kind → Option Wanted → Option Wanted → Type 0
 KeepsOthers kind old new = (other : Kind) (told : Option (Option ℕ)) → is_same_kind kind other ≡ false → IsHeld told old other → IsHeld told new other
+
+-- ---- the faults that jobs count
+
+-- a count that was not past its last number is not past it, and has not fallen
+abbrev pub CountsOn : ℕ → ℕ → Type 0
+CountsOn before now = before ≤ 2 ^ 64 - 1 → (before ≤ now) × (now ≤ 2 ^ 64 - 1)
+
+-- a count stands where it stood, before its last number: it did not rise
+abbrev pub Stands : ℕ → ℕ → Type 0
+Stands before now = (now ≡ before) × (before < 2 ^ 64 - 1)

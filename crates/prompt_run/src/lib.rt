@@ -12,6 +12,7 @@ mod scripts;
 mod statuses;
 mod terminals;
 mod turns;
+mod unheard;
 mod wishes;
 
 pub use command_words::{Outside, outside_of};

@@ -1,11 +1,14 @@
 //! Prompts over an outside in memory, with each of its calls failing in turn.
+ghost use Rattle.std.specs.Prelude.{None};
+
 use super::*;
 use cell_grid::Size;
+use requests::{Kind, Request};
 use std::alloc::Global;
 use std::process::Abort;
 use std::sync::Wait;
 use std::test::Fail;
-use text_doc::Bytes;
+use text_doc::{Bytes, NoMemory};
 
 /// The parts of the outside, each with a plan of the calls that are to fail.
 #[derive(Clone, Copy, PartialEq, Eq)]
@@ -40,7 +43,6 @@ struct OutsideInMemory {
     screen: MemoryScreen,
     out: MemorySink,
     keeper: MemoryKeeper,
-    jobs: MemoryJobs,
 }
 
 /// Returns the plan of a part: of its calls those fail whose numbers are named.
@@ -99,15 +101,15 @@ fn memory_outside(
         screen: MemoryScreen::new(alloc, plan(alloc, Part::Screen, faults)?),
         out: MemorySink::new(alloc, plan(alloc, Part::Out, faults)?),
         keeper: keeper_of(alloc, history, faults)?,
-        jobs: MemoryJobs::new(plan(alloc, Part::Jobs, faults)?),
     })
 }
 
-/// Runs the prompts of these words over an outside.
-fn run<R: Wait + AllocGlobal>(
+/// Runs the prompts of these words over an outside, and tells jobs what is wanted.
+fn run_with<R: Wait + AllocGlobal, J: Jobs>(
     rt: &R,
     words: &[&str],
     outside: &mut OutsideInMemory,
+    jobs: &mut J,
 ) -> Result<Status, Fail> {
     let alloc = rt.alloc();
     let owned = owned_words(alloc, words)?;
@@ -120,9 +122,37 @@ fn run<R: Wait + AllocGlobal>(
         &mut outside.screen,
         &mut outside.out,
         &mut outside.keeper,
-        &mut outside.jobs,
+        jobs,
     );
     Ok(status)
+}
+
+/// Runs the prompts of these words over an outside whose jobs fail by the plan.
+fn run<R: Wait + AllocGlobal>(
+    rt: &R,
+    words: &[&str],
+    outside: &mut OutsideInMemory,
+    faults: Faults,
+) -> Result<Status, Fail> {
+    let mut jobs = MemoryJobs::new(plan(rt.alloc(), Part::Jobs, faults)?);
+    run_with(rt, words, outside, &mut jobs)
+}
+
+/// Jobs that count what they are told.
+#[derive(Drop)]
+struct CountingJobs {
+    told: usize,
+}
+
+impl Jobs for CountingJobs {
+    ghost wanted = { λ _. None };
+
+    ghost faults = { λ _. 0 };
+
+    fn want(&mut self, _kind: Kind, _request: Option<&Request>) -> Result<(), NoMemory> {
+        self.told = self.told.saturating_add(1);
+        Ok(())
+    }
 }
 
 /// Compares what a run left with what it is to leave.
@@ -187,7 +217,7 @@ static ONE_PROMPT: [Case; 13] = [
 fn tells_each_failing_call(rt: HostRuntime) -> Result<(), Fail> {
     for (number, case) in ONE_PROMPT.iter().enumerate() {
         let mut left = memory_outside(rt.alloc(), &["hello\r"], "", case.faults)?;
-        let status = run(&rt, &["prompt"], &mut left)?;
+        let status = run(&rt, &["prompt"], &mut left, case.faults)?;
         assert_left(&rt, status, &left, case, number);
     }
     Ok(())
@@ -209,7 +239,7 @@ static TWO_PROMPTS: [Case; 6] = [
 fn runs_prompts_with_a_history(rt: HostRuntime) -> Result<(), Fail> {
     for (number, case) in TWO_PROMPTS.iter().enumerate() {
         let mut left = memory_outside(rt.alloc(), &["a\rb\r", "c\r"], "\n+a\n", case.faults)?;
-        let status = run(&rt, &["prompt", "--repeat", "2"], &mut left)?;
+        let status = run(&rt, &["prompt", "--repeat", "2"], &mut left, case.faults)?;
         assert_left(&rt, status, &left, case, number);
     }
     Ok(())
@@ -219,7 +249,7 @@ fn runs_prompts_with_a_history(rt: HostRuntime) -> Result<(), Fail> {
 fn touches_nothing_for_unknown_words(rt: HostRuntime) -> Result<(), Fail> {
     let mut left = memory_outside(rt.alloc(), &["a\r"], "x", &[])?;
     assert_eq!(rt;
-        run(&rt, &["prompt", "--size", "0x5"], &mut left)?,
+        run(&rt, &["prompt", "--size", "0x5"], &mut left, &[])?,
         UNKNOWN_WORDS
     );
     assert_eq!(rt; left.screen.len(), 0);
@@ -229,7 +259,18 @@ fn touches_nothing_for_unknown_words(rt: HostRuntime) -> Result<(), Fail> {
 #[test]
 fn an_inbox_that_ends_ends_the_run(rt: HostRuntime) -> Result<(), Fail> {
     let mut left = memory_outside(rt.alloc(), &["a"], "", &[])?;
-    assert_eq!(rt; run(&rt, &["prompt"], &mut left)?, END_OF_FILE);
+    assert_eq!(rt; run(&rt, &["prompt"], &mut left, &[])?, END_OF_FILE);
     assert_eq!(rt; left.screen.len(), 3);
+    Ok(())
+}
+
+/// Jobs are told of each kind behind the first turn, and no more while nothing changes.
+#[test]
+fn tells_jobs_what_changed(rt: HostRuntime) -> Result<(), Fail> {
+    let mut left = memory_outside(rt.alloc(), &["a", "b\rc", "\r"], "", &[])?;
+    let mut jobs = CountingJobs { told: 0 };
+    let status = run_with(&rt, &["prompt", "--repeat", "2"], &mut left, &mut jobs)?;
+    assert_eq!(rt; status, ACCEPTED);
+    assert_eq!(rt; jobs.told, 3);
     Ok(())
 }

@@ -6,8 +6,10 @@ ghost use Rattle.command_words.specs.Asked.{asked_of};
 ghost use Rattle.line_history.specs.History.{entries_of};
 ghost use Rattle.ports.specs.declared.ttys.Mode.TheVariants.{Cooked};
 ghost use Rattle.session_core.specs.State.{opened};
+ghost use Rattle.prompt_run.specs.Course.{around};
 ghost use Rattle.prompt_run.specs.Prompts.{IsBegun, Prompts, PutsLines, RanOver};
 ghost use Rattle.prompt_run.specs.Runs.{MayGoOn, IsRunStatus, first_status, line_row};
+ghost use Rattle.prompt_run.specs.Wishes.{Stands};
 
 use crate::openings::Opening;
 use crate::runners::{RunFault, Runner};
@@ -53,11 +55,14 @@ pub fn prompt_words<R: Wait, T: Tty, I: Inbox, S: Screen, O: Sink, K: Keeper, J:
 
     // What was done is the run over the events that the inbox gave, to its end or to the first fault in time. After each of its
     // events, every terminal of the size at its beginning which obeyed the frames that the screen took, and took each resize with
-    // the run, shows the drawing of the run's state. The lines on `out` and the entries on the keeper are those of the run.
-    ensures prompts { Prompts I.heard S.took S.missed (J.wanted jobs.old) (J.wanted jobs.new)
+    // the run, shows the drawing of the run's state. The lines on `out` and the entries on the keeper are those of the run. Where a
+    // turn was made, jobs were told last what is wanted behind the last one, where their own count of faults stands.
+    ensures prompts { Prompts I.heard S.took S.missed (Stands (J.faults jobs.old) (J.faults jobs.new))
         (asked_of (map string_bytes words.now))
-        (T.entries tty.old) (T.entries tty.new) inbox.old inbox.new screen.old screen.new
-        (K.kept keeper.old) (K.kept keeper.new) (O.taken out.old) (O.taken out.new) result }
+        (T.entries tty.old) (T.entries tty.new) inbox.old inbox.new
+        (around screen.old (K.kept keeper.old) (J.wanted jobs.old))
+        (around screen.new (K.kept keeper.new) (J.wanted jobs.new))
+        (O.taken out.old) (O.taken out.new) result }
 
     // A fault comes only where the object that had it counted it.
     ensures inbox_fault { result ≡ INBOX_FAULT → Rose (I.faults inbox.old) (I.faults inbox.new) }
@@ -127,9 +132,11 @@ fn run<R: Wait, I: Inbox, S: Screen, K: Keeper, J: Jobs>(
     ensures screen { HasFaultCause RunFault.Screen (S.faults screen.old) (S.faults screen.new) result.end }
     ensures keeper { HasFaultCause RunFault.Keeper (K.faults keeper.old) (K.faults keeper.new) result.end }
     ensures status { IfOk result.end IsRunStatus }
-    ensures ran { RanOver I.heard S.took S.missed (J.wanted jobs.new)
+    ensures ran { RanOver I.heard S.took S.missed (Stands (J.faults jobs.old) (J.faults jobs.new))
         (opened opening.settings opening.entries entered.size entered.moment)
-        inbox.old inbox.new screen.old screen.new (K.kept keeper.old) (K.kept keeper.new)
+        inbox.old inbox.new
+        (around screen.old (K.kept keeper.old) (J.wanted jobs.old))
+        (around screen.new (K.kept keeper.new) (J.wanted jobs.new))
         result.lines result.end }
 {
     match Runner::new(alloc, opening, entered.size, entered.moment) {
@@ -162,8 +169,10 @@ fn run_to_end<R: Wait, I: Inbox, S: Screen, K: Keeper, J: Jobs>(
     ensures screen { HasFaultCause RunFault.Screen (S.faults screen.old) (S.faults screen.new) result }
     ensures keeper { HasFaultCause RunFault.Keeper (K.faults keeper.old) (K.faults keeper.new) result }
     ensures status { IfOk result IsRunStatus }
-    ensures ran { RanOver I.heard S.took S.missed (J.wanted jobs.new) runner.old.session
-        inbox.old inbox.new screen.old screen.new (K.kept keeper.old) (K.kept keeper.new)
+    ensures ran { RanOver I.heard S.took S.missed (Stands (J.faults jobs.old) (J.faults jobs.new))
+        runner.old.session inbox.old inbox.new
+        (around screen.old (K.kept keeper.old) (J.wanted jobs.old))
+        (around screen.new (K.kept keeper.new) (J.wanted jobs.new))
         runner.new.answers result }
 {
     runner.take(Event::Start, screen, keeper, jobs)?;

@@ -8,13 +8,13 @@ ghost use Rattle.diff_render.specs.Frames.{screen_after};
 ghost use Rattle.session_core.specs.Draw.{draw};
 ghost use Rattle.session_core.specs.Next.{is_accepted, next};
 ghost use Rattle.session_core.specs.State.{has_ended, opened};
-ghost use Rattle.prompt_run.specs.Course.{AppendsFront, GoesOn, LeavesScreen, Stops, present_state, reopened_state};
+ghost use Rattle.prompt_run.specs.Course.{AppendsFront, GoesOn, LeavesScreen, Stops, around, present_state, reopened_state};
 ghost use Rattle.prompt_run.specs.Play.{accepted, done, followed, lines_left, new_entry, with_event};
 ghost use Rattle.prompt_run.specs.Prompts.{IsBegun};
 ghost use Rattle.prompt_run.specs.Runs.{MayGoOn};
 ghost use Rattle.prompt_run.specs.Script.{status_of};
 ghost use Rattle.prompt_run.specs.Turn.{GivesState, MayTurn};
-ghost use Rattle.prompt_run.specs.Wishes.{AreHeld, WereTold};
+ghost use Rattle.prompt_run.specs.Wishes.{CountsOn, Stands};
 
 use crate::openings::Opening;
 use crate::statuses::{ACCEPTED, END_OF_FILE, INTERRUPTED, Status};
@@ -135,21 +135,22 @@ impl Runner {
         ensures no_inbox { IsErrOf result RunFault.Inbox → ⊥ }
         ensures again { OnOk result (MayGoOn self.new) }
         ensures done { OnOk result (GoesOn S.took present_state (λ p. done p event)
-            self.old screen.old (K.kept keeper.old)
-            self.new screen.new (K.kept keeper.new)) }
+            self.old (around screen.old (K.kept keeper.old) (J.wanted jobs.old))
+            self.new (around screen.new (K.kept keeper.new) (J.wanted jobs.new))) }
         ensures stops { IfErr result (λ fault. Stops S.took S.missed present_state
-            (λ p. done p event) self.old screen.old (K.kept keeper.old)
-            fault self.new screen.new (K.kept keeper.new)) }
-        ensures told { OnOk result (AreHeld self.old.told (J.wanted jobs.old)
-            → WereTold self.new (J.wanted jobs.new)) }
+            (λ p. done p event) self.old
+            (around screen.old (K.kept keeper.old) (J.wanted jobs.old))
+            fault (Stands (J.faults jobs.old) (J.faults jobs.new)) self.new
+            (around screen.new (K.kept keeper.new) (J.wanted jobs.new))) }
+        ensures jobs { CountsOn (J.faults jobs.old) (J.faults jobs.new) }
     {
         self.run_event(event, screen, keeper, jobs)?;
         self.follow(screen, keeper, jobs)?;
         Ok(())
     }
 
-    /// Does one event: the screen shows the state after it, jobs are told what is wanted there, and where it accepted a line that is
-    /// kept, with the entry that it adds to the history.
+    /// Does one event: the screen shows the state after it, jobs are told what is wanted there before anything else can fail, and where
+    /// it accepted a line that is kept, with the entry that it adds to the history.
     fn run_event<S: Screen, K: Keeper, J: Jobs>(
         &mut self,
         event: Event,
@@ -165,13 +166,14 @@ impl Runner {
         ensures no_inbox { IsErrOf result RunFault.Inbox → ⊥ }
         ensures again { OnOk result (MayGoOn self.new) }
         ensures done { OnOk result (GoesOn S.took reopened_state (λ p. with_event p event)
-            self.old screen.old (K.kept keeper.old)
-            self.new screen.new (K.kept keeper.new)) }
+            self.old (around screen.old (K.kept keeper.old) (J.wanted jobs.old))
+            self.new (around screen.new (K.kept keeper.new) (J.wanted jobs.new))) }
         ensures stops { IfErr result (λ fault. Stops S.took S.missed reopened_state
-            (λ p. with_event p event) self.old screen.old (K.kept keeper.old)
-            fault self.new screen.new (K.kept keeper.new)) }
-        ensures told { OnOk result (AreHeld self.old.told (J.wanted jobs.old)
-            → WereTold self.new (J.wanted jobs.new)) }
+            (λ p. with_event p event) self.old
+            (around screen.old (K.kept keeper.old) (J.wanted jobs.old))
+            fault (Stands (J.faults jobs.old) (J.faults jobs.new)) self.new
+            (around screen.new (K.kept keeper.new) (J.wanted jobs.new))) }
+        ensures jobs { CountsOn (J.faults jobs.old) (J.faults jobs.new) }
     {
         advance(
             self.alloc,
@@ -180,8 +182,8 @@ impl Runner {
             event,
             screen,
         )?;
-        keep_answer(&mut self.answers, &self.session)?;
         self.told.tell(&self.session, jobs)?;
+        keep_answer(&mut self.answers, &self.session)?;
         keep_entry(self.alloc, &self.session, keeper)?;
         Ok(())
     }
@@ -202,13 +204,14 @@ impl Runner {
         ensures no_inbox { IsErrOf result RunFault.Inbox → ⊥ }
         ensures again { OnOk result (MayGoOn self.new) }
         ensures done { OnOk result (GoesOn S.took present_state (λ p. followed (lines_left p) p)
-            self.old screen.old (K.kept keeper.old)
-            self.new screen.new (K.kept keeper.new)) }
+            self.old (around screen.old (K.kept keeper.old) (J.wanted jobs.old))
+            self.new (around screen.new (K.kept keeper.new) (J.wanted jobs.new))) }
         ensures stops { IfErr result (λ fault. Stops S.took S.missed present_state
-            (λ p. followed (lines_left p) p) self.old screen.old (K.kept keeper.old)
-            fault self.new screen.new (K.kept keeper.new)) }
-        ensures told { OnOk result (WereTold self.old (J.wanted jobs.old)
-            → WereTold self.new (J.wanted jobs.new)) }
+            (λ p. followed (lines_left p) p) self.old
+            (around screen.old (K.kept keeper.old) (J.wanted jobs.old))
+            fault (Stands (J.faults jobs.old) (J.faults jobs.new)) self.new
+            (around screen.new (K.kept keeper.new) (J.wanted jobs.new))) }
+        ensures jobs { CountsOn (J.faults jobs.old) (J.faults jobs.new) }
     {
         let mut left = self.repeat.saturating_sub(self.answers.len());
         while left > 0 {

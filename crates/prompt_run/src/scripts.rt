@@ -149,7 +149,7 @@ fn close(player: Player, refused: Option<usize>) -> Result<(Vec<u8>, Status), No
     match player.screen.frames.take() {
         Some(frames) => Ok((frames.into_vec(), status)),
         None => {
-            let reports = std::mem::replace(&mut player.reports, Vec::new(player.alloc));
+            let reports = std::mem::replace(&mut player.reports, Vec::new(player.runner.alloc));
             Ok((reports, status))
         }
     }
@@ -185,7 +185,7 @@ fn write_closing(player: &mut Player) -> Result<(), NoMemory>
 {
     let status = player.status();
     write_screen(&mut player.reports, &player.screen.terminal)?;
-    write_answers(&mut player.reports, &player.answers)?;
+    write_answers(&mut player.reports, &player.runner.answers)?;
     write_status(&mut player.reports, status)?;
     Ok(())
 }

@@ -1,5 +1,5 @@
 //! The terminal of a replay, as a screen.
-ghost use Rattle.prompt_run.specs.Terminals.{Obeys, Keeps};
+ghost use Rattle.prompt_run.specs.Terminals.{Obeys, Keeps, Takes};
 
 use ports::{Failed, Screen};
 use term_model::Terminal;
@@ -44,7 +44,7 @@ impl TerminalScreen {
 }
 
 impl Screen for TerminalScreen {
-    ghost took = { λ old frame new. Obeys old.terminal frame new.terminal × Keeps old.frames frame new.frames };
+    ghost took = { Takes };
 
     // nothing is claimed of a terminal that found no memory
     ghost missed = { λ _ _ _. Unit {0} };

@@ -1,5 +1,6 @@
 //! Which requests jobs were told to be wanted.
-ghost use Rattle.std.specs.Prelude.{◌≡◌, None, Some, IfOk, OnOk, option_copied};
+ghost use Rattle.std.specs.Prelude.{◌≡◌, None, Some, IfOk, OnErr, OnOk, option_copied};
+ghost use Rattle.causes.specs.Faults.{counted};
 ghost use Rattle.session_core.specs.Wishes.{wanted};
 ghost use Rattle.prompt_run.specs.Wishes.{AreHeld, HoldWanted, IsHeld, KeepsOthers, number_of};
 
@@ -38,6 +39,8 @@ impl ToldWishes {
             → AreHeld self.new (J.wanted jobs.new)) }
         ensures holds { OnOk result (AreHeld self.old (J.wanted jobs.old)
             → HoldWanted (J.wanted jobs.new) (wanted session.now)) }
+        ensures same { OnOk result (J.faults jobs.new ≡ J.faults jobs.old) }
+        ensures counted { OnErr result (J.faults jobs.new ≡ counted (J.faults jobs.old)) }
     {
         let complete = session.wanted(Kind::Complete);
         self.complete = tell_kind(jobs, Kind::Complete, complete, self.complete)?;
@@ -60,6 +63,8 @@ fn tell_kind<J: Jobs>(
     ensures held { OnOk result (IsHeld told (J.wanted jobs.old) kind
         → IsHeld (Some (number_of (option_copied request.entry))) (J.wanted jobs.new) kind) }
     ensures others { OnOk result (KeepsOthers kind (J.wanted jobs.old) (J.wanted jobs.new)) }
+    ensures same { OnOk result (J.faults jobs.new ≡ J.faults jobs.old) }
+    ensures counted { OnErr result (J.faults jobs.new ≡ counted (J.faults jobs.old)) }
 {
     let wanted = Some(match request {
         Some(request) => Some(request.id),
